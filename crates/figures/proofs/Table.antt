@@ -1,0 +1,55 @@
+-- The starred figures are what the definitions compute: one test over the whole table, and what it says of each row.
+-- Assumes nothing.
+use mathlib.Core.Path.{_≡_, refl, ap, ap₂}
+use mathlib.Core.Bool.{Bool, true, false, _&&_}
+use mathlib.Core.List.{List, [], _∷_}
+use lib.Dec.{T, eqb, eqb→eq}
+use lib.IntN.{ℤ, pos, negsuc}
+use Rattle.sheets.specs.Frequency.{steps, readBack, lowest}
+use Rattle.sheets.specs.Modem.{bandwidthCodes}
+use Rattle.sheets.specs.Power.{clamped, paConfig, paDac, ocp}
+use Rattle.sheets.specs.Signal.{offset, rssi}
+use Rattle.sheets.proofs.Sweep.{both}
+use Rattle.refusals.specs.Refusals.{linkRefusal}
+use Rattle.figures.specs.Starred.{Row, starred}
+
+abbrev same : ℤ → ℤ → Bool
+same (pos a) (pos b) = eqb a b
+same (pos a) (negsuc b) = false
+same (negsuc a) (pos b) = false
+same (negsuc a) (negsuc b) = eqb a b
+
+same→eq : (y z : ℤ) → T (same y z) → y ≡ z
+same→eq (pos a) (pos b) t = ap pos (eqb→eq a b t)
+same→eq (pos a) (negsuc b) t = absurd t
+same→eq (negsuc a) (pos b) t = absurd t
+same→eq (negsuc a) (negsuc b) t = ap negsuc (eqb→eq a b t)
+
+abbrev alike : List ℤ → List ℤ → Bool
+alike [] [] = true
+alike [] (y ∷ ys) = false
+alike (x ∷ xs) [] = false
+alike (x ∷ xs) (y ∷ ys) = same x y && alike xs ys
+
+alike→eq : (xs ys : List ℤ) → T (alike xs ys) → xs ≡ ys
+alike→eq [] [] t = refl
+alike→eq [] (y ∷ ys) t = absurd t
+alike→eq (x ∷ xs) [] t = absurd t
+alike→eq (x ∷ xs) (y ∷ ys) t = let p = both (same x y) (alike xs ys) t in ap₂ _∷_ (same→eq x y (p .0)) (alike→eq xs ys (p .1))
+
+abbrev holds : List Row → Bool
+holds [] = true
+holds (r ∷ rs) = alike (r .computed) (r .bench) && holds rs
+
+-- every row's computed figures are the bench's
+abbrev pub Right : List Row → Type 0
+Right [] = Unit {0}
+Right (r ∷ rs) = (r .computed ≡ r .bench) × Right rs
+
+right : (rs : List Row) → T (holds rs) → Right rs
+right [] t = tt
+right (r ∷ rs) t = let p = both (alike (r .computed) (r .bench)) (holds rs) t in (alike→eq (r .computed) (r .bench) (p .0), right rs (p .1))
+
+pub starred-figures : Right starred
+unfolding starred steps readBack lowest bandwidthCodes clamped paConfig paDac ocp offset rssi linkRefusal
+starred-figures = right starred tt

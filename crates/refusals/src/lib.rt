@@ -1,0 +1,3 @@
+// Which arguments are refused, and by what.
+pub mod arguments;
+pub mod modes;

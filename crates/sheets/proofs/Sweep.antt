@@ -1,0 +1,48 @@
+-- A test that is computed at each number of a range, and the laws that turn it into a fact of each of them.
+-- Assumes nothing.
+use mathlib.Core.Path.{_≡_, refl, subst}
+use mathlib.Core.Logic.{inl, inr}
+use mathlib.Core.Bool.{Bool, true, false, not, _&&_}
+use Prim.Native.Nat.{ℕ, zero, suc, _+_, _≤_, _<_}
+use native.Mathlib.Nat.{eq-or-lt-of-le}
+use native.Mathlib.Omega.{arith}
+use lib.Dec.{T, eqb, eqb→eq}
+
+pub both : (a b : Bool) → T (a && b) → T a × T b
+both true b t = (tt, t)
+both false b t = absurd t
+
+-- the test passes at each of the n numbers from a on
+abbrev pub every : (ℕ → Bool) → ℕ → ℕ → Bool
+every f a zero = true
+every f a (suc n) = f a && every f (suc a) n
+
+past : (a k : ℕ) → a ≤ k → k < a + zero → ⊥
+past a k h l = omega arith
+
+pub at : (f : ℕ → Bool) (a n : ℕ) → T (every f a n) → (k : ℕ) → a ≤ k → k < a + n → T (f k)
+at f a zero t k h l = absurd (past a k h l)
+at f a (suc n) t k h l =
+    let p = both (f a) (every f (suc a) n) t in
+    elim (eq-or-lt-of-le h) [
+      | inl e ↦ subst (λ (m : ℕ). T (f m)) e (p .0)
+      | inr m ↦ at f (suc a) n (p .1) k m (omega arith)
+    ]
+
+-- two functions that are equal at each number of a range
+pub equal : (a n : ℕ) (f g : ℕ → ℕ) → T (every (λ k. eqb (f k) (g k)) a n) → (k : ℕ) → a ≤ k → k < a + n → f k ≡ g k
+equal a n f g t k h l = eqb→eq (f k) (g k) (at (λ i. eqb (f i) (g i)) a n t k h l)
+
+-- and two tests
+abbrev pub same : Bool → Bool → Bool
+same true b = b
+same false b = not b
+
+same→eq : (a b : Bool) → T (same a b) → a ≡ b
+same→eq true true t = refl
+same→eq true false t = absurd t
+same→eq false true t = absurd t
+same→eq false false t = refl
+
+pub alike : (a n : ℕ) (f g : ℕ → Bool) → T (every (λ k. same (f k) (g k)) a n) → (k : ℕ) → a ≤ k → k < a + n → f k ≡ g k
+alike a n f g t k h l = same→eq (f k) (g k) (at (λ i. same (f i) (g i)) a n t k h l)

@@ -1,0 +1,9 @@
+pub mod Bits
+pub mod Registers
+pub mod Frequency
+pub mod Modem
+pub mod Power
+pub mod Receive
+pub mod Interrupts
+pub mod Signal
+pub mod Reader

@@ -1,0 +1,78 @@
+-- The LoRa modem (sheets: "LoRa Modem", RegModemConfig1 to 3): bandwidth, symbol time, detection, IQ, sync word.
+-- A bandwidth is its number in the Rust's `Bandwidth` order, 0 to 9, on either variant.
+use mathlib.Core.Bool.{Bool, cond, not}
+use mathlib.Core.List.{List, [], _∷_}
+use Prim.Native.Nat.{ℕ, zero, suc, _+_, _/_, _^_}
+use lib.Dec.{eqb, ltb}
+use lib.ListN.{getD}
+use Rattle.sheets.specs.declared.Variant.{Variant}
+use Rattle.sheets.specs.declared.Variant.the-variants.{Sx1272, Sx1276}
+use Rattle.sheets.specs.Bits.{at, mask}
+use Rattle.sheets.specs.Registers.{InvertIqRx, InvertIqReserved, InvertIqTx, DetectionOptimize, DetectionReserved}
+
+-- ---- bandwidth
+
+-- in Hz, as the release of lora-modulation that lora-phy 3.0.1 names rounds the sheets' kHz
+unfoldable pub bandwidths : List ℕ
+bandwidths = 7810 ∷ 10420 ∷ 15630 ∷ 20830 ∷ 31250 ∷ 41670 ∷ 62500 ∷ 125000 ∷ 250000 ∷ 500000 ∷ []
+
+abbrev pub hertz : ℕ → ℕ
+hertz bw = getD bandwidths bw 0
+
+-- stands where a variant has no code for a bandwidth
+abbrev pub noCode : ℕ
+noCode = 255
+
+-- the codes of field Bw: the SX1276 has all ten, the SX1272 125, 250 and 500 kHz
+unfoldable pub bandwidthCodes : Variant → List ℕ
+bandwidthCodes Sx1272 = noCode ∷ noCode ∷ noCode ∷ noCode ∷ noCode ∷ noCode ∷ noCode ∷ 0 ∷ 1 ∷ 2 ∷ []
+bandwidthCodes Sx1276 = 0 ∷ 1 ∷ 2 ∷ 3 ∷ 4 ∷ 5 ∷ 6 ∷ 7 ∷ 8 ∷ 9 ∷ []
+
+abbrev pub bandwidthCode : Variant → ℕ → ℕ
+bandwidthCode v bw = getD (bandwidthCodes v) bw noCode
+
+abbrev pub hasBandwidth : Variant → ℕ → Bool
+hasBandwidth v bw = not (eqb (bandwidthCode v bw) noCode)
+
+-- 250 and 500 kHz, codes 8 and 9, are not available in the lowest band, below 400 MHz
+abbrev pub lowestBandEnd : ℕ
+lowestBandEnd = 400000000
+
+-- ---- symbol time and low data rate optimize
+
+-- the time of a symbol in ms: the sheets' 2^SF / bandwidth, by the Rust's two divisions, each rounded down
+unfoldable pub symbolTime : ℕ → ℕ → ℕ
+symbolTime sf bw = 1000 / (hertz bw / 2 ^ sf)
+
+-- LowDataRateOptimize is on where a symbol lasts longer than 16 ms
+unfoldable pub optimize : ℕ → ℕ → ℕ
+optimize sf bw = cond (ltb 16 (symbolTime sf bw)) 1 0
+
+-- ---- detection: SF6 wants its own values
+
+abbrev pub detectionOptimize : ℕ → ℕ
+detectionOptimize sf = at DetectionOptimize (cond (eqb sf 6) 5 3)
+
+-- the Rust keeps bits 6..3 alone, so that bit 7 becomes 0
+abbrev pub detectionKeeps : ℕ
+detectionKeeps = mask DetectionReserved
+
+abbrev pub detectionThreshold : ℕ → ℕ
+detectionThreshold sf = cond (eqb sf 6) 0x0c 0x0a
+
+-- ---- IQ: a flag is 0 or 1
+
+-- inverted in receive where the flag is 1, and in transmit (the Rust's way) where it is 0
+abbrev pub invertIq : ℕ → ℕ
+invertIq zero = at InvertIqReserved 0x13 + at InvertIqTx 1
+invertIq (suc f) = at InvertIqReserved 0x13 + at InvertIqRx 1
+
+abbrev pub invertIq2 : ℕ → ℕ
+invertIq2 zero = 0x1d
+invertIq2 (suc f) = 0x19
+
+-- ---- sync word: 0x34 for LoRaWAN's public networks, 0x12 for private ones
+
+abbrev pub syncWord : ℕ → ℕ
+syncWord zero = 0x12
+syncWord (suc f) = 0x34

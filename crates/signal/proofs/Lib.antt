@@ -1,0 +1,2 @@
+pub mod Signed16
+pub mod Known

@@ -1,0 +1,79 @@
+// A received packet's signal, in whole dB and dBm, from the bytes that the radio reports.
+ghost use mathlib.Core.Path.{_≡_};
+ghost use Prim.Native.Nat.{_*_, _/_, _^_, _<_};
+ghost use lib.IntN.{pos, negsuc};
+ghost use lib.Signed.{_≤ℤ_};
+ghost use Rattle.sheets.specs.Signal.{snr, offset, rssi};
+use params::mod_params::PacketStatus;
+use sheets::Variant;
+use units::Steps;
+
+const SX1272_RSSI_OFFSET: i16 = -139;
+
+const SX1276_RSSI_OFFSET_LF: i16 = -164;
+
+const SX1276_RSSI_OFFSET_HF: i16 = -157;
+
+const SX1276_RF_MID_BAND_THRESH: u32 = 525_000_000;
+
+// The whole part of 16 p / 15, worked out in f32 as the Rust does.
+fn scaled(p: u8) -> i16
+    ensures { λ r. ⌜ r ≡ pos (16 * p / 15) ⌝ }
+{
+    let x = (p as f32) * 16.0 / 15.0;
+    std::num::truncating_f32_to_u64(x) as i16
+}
+
+// RegPktSnrValue counts quarter dB; the quotient goes toward zero, so that 0xfd to 0xff are 0.
+pub fn snr(raw: u8) -> i16
+    ensures { λ r. ⌜ r ≡ snr raw ⌝ }
+{
+    let wide = raw as i16;
+    if raw < 128 {
+        wide / 4
+    } else {
+        (wide - 256) / 4
+    }
+}
+
+// The SX1276's port follows from what RegFrf holds, not from the frequency that was asked for.
+pub fn rssi_offset(variant: Variant, frf: Steps) -> i16
+    requires { ⌜ frf .0 < 2 ^ 24 ⌝ }
+    ensures { λ r. ⌜ r ≡ offset variant (frf .0) ⌝ }
+{
+    match variant {
+        Variant::Sx1272 => SX1272_RSSI_OFFSET,
+        Variant::Sx1276 => {
+            let frequency = frf.read_back();
+            let hz = frequency.0;
+            if hz > SX1276_RF_MID_BAND_THRESH {
+                SX1276_RSSI_OFFSET_HF
+            } else {
+                SX1276_RSSI_OFFSET_LF
+            }
+        }
+    }
+}
+
+// Below the noise the radio's byte measures the noise, and the ratio leads from it to the packet.
+fn packet_rssi(offset: i16, raw: u8, p: u8) -> i16
+    requires { ⌜ (negsuc 199 ≤ℤ offset) × (offset ≤ℤ pos 0) ⌝ }
+    ensures { λ r. ⌜ r ≡ rssi offset raw p ⌝ }
+{
+    let s = snr(raw);
+    if s >= 0 {
+        offset + scaled(p)
+    } else {
+        offset + p as i16 + s
+    }
+}
+
+// What `get_rx_packet_status` makes of the bytes that it read.
+pub fn packet_status(offset: i16, snr_raw: u8, rssi_raw: u8) -> PacketStatus
+    requires { ⌜ (negsuc 199 ≤ℤ offset) × (offset ≤ℤ pos 0) ⌝ }
+    ensures { λ r. ⌜ (r .rssi ≡ rssi offset «snr_raw» «rssi_raw») × (r .snr ≡ snr «snr_raw») ⌝ }
+{
+    let rssi = packet_rssi(offset, snr_raw, rssi_raw);
+    let snr = snr(snr_raw);
+    PacketStatus { rssi, snr }
+}
