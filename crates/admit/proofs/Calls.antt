@@ -14,8 +14,8 @@ use Rattle.params.specs.declared.mod_params.Verdict.{Verdict}
 use Rattle.params.specs.declared.mod_params.Verdict.the-variants.{Clear, Refused}
 use Rattle.params.specs.Errors.{Told, refusal, or}
 use Rattle.refusals.specs.Refusals.{unless}
-use Rattle.bus.specs.Access.{Access, read, write, fifoRead, fifoWrite, rfSwitch, resetPin, sleepWrite, laid, fifoBy}
-use Rattle.bus.specs.Steps.{Step, accesses, fifoPlayed, endAfter, fifoAfter, bufferAfter, Done}
+use Rattle.log.specs.Access.{Access, read, write, fifoRead, fifoWrite, rfSwitch, resetPin, sleepWrite, laid, fifoBy}
+use Rattle.log.specs.Steps.{Step, accesses, fifoPlayed, endAfter, fifoAfter, Done, Makes, Quiet}
 use Rattle.admit.specs.Call.{formed, formedFifo, admitted, admittedFifo, Outcome, Meets, call}
 
 -- ---- a clear verdict
@@ -75,23 +75,34 @@ no-fifo : (s : List Step) (im : List ℕ) → fifoAfter s im [] ≡ []
 no-fifo [] im = refl
 no-fifo (x ∷ s) im = rw (played-none (accesses x im) im) (no-fifo s _)
 
--- ---- the outcome of a call, by its verdict; n is the number of records that was handed to `admit`
+-- ---- the outcome of a call, by its verdict
 
-module _ (asked : Verdict) (t : Told) (s : List Step) (im log : List ℕ) (used n : ℕ) (count : endAfter s im used ≡ used + 3 * n) {v : Verdict}
+-- What a call that is lent an image and a log is: its arguments' refusal, what it tells, its steps, and how many records they make.
+pub record Operation : Type 0 where
+  pub asked : Verdict
+  pub tells : Told
+  pub steps : List Step
+  pub records : ℕ
+  pub makes : Makes steps records
+  pub quiet : Quiet steps
+
+-- v is what `admit` decided, given a refusal and a count of records that are the operation's
+module _ (o : Operation) (im log : List ℕ) (used : ℕ) {v asked : Verdict} {n : ℕ} (same : asked ≡ o .asked) (count : n ≡ o .records)
     (decided : v ≡ admitted asked (used + 3 * n) im log used) where
-  by-verdict : (w : Verdict) → v ≡ w → admitted asked (endAfter s im used) im log used ≡ w
-  by-verdict w e = rw count (sym decided ∙ e)
+  by-verdict : (w : Verdict) → v ≡ w → admitted (o .asked) (endAfter (o .steps) im used) im log used ≡ w
+  by-verdict w e = rw (o .makes im used, ← same, ← count) (sym decided ∙ e)
 
-  pub refused : {e : RadioError} → v ≡ Refused e → Meets (call asked t s im log used) (refusal e) used im [] log []
+  pub refused : {e : RadioError} → v ≡ Refused e → Meets (call (o .asked) (o .tells) (o .steps) im log used) (refusal e) used im [] log []
   refused {e} g = rw (by-verdict (Refused e) g) (record { answers = refl; ends = refl; leaves = refl; holds = refl; logs = refl; fills = refl })
 
-  pub room-for : v ≡ Clear → Room asked (used + 3 * n) im log
-  room-for g = admitted→room asked (used + 3 * n) im log used (sym decided ∙ g)
+  pub room-for : v ≡ Clear → Room (o .asked) (used + 3 * o .records) im log
+  room-for g = admitted→room (o .asked) (used + 3 * o .records) im log used (rw (o .makes im used) at (by-verdict Clear g))
 
-  pub done : {r : ℕ} {im′ log′ : List ℕ} → v ≡ Clear → Done s im log used r im′ log′ → bufferAfter s im [] [] ≡ []
-      → Meets (call asked t s im log used) t r im′ [] log′ []
-  done g d none =
-      rw (by-verdict Clear g) (record { answers = refl; ends = d .ends; leaves = d .stored; holds = sym (no-fifo s im); logs = d .logged; fills = sym none })
+  pub done : {r : ℕ} {im′ log′ : List ℕ} → v ≡ Clear → Done (o .steps) im log used r im′ log′
+      → Meets (call (o .asked) (o .tells) (o .steps) im log used) (o .tells) r im′ [] log′ []
+  done g d =
+      rw (by-verdict Clear g)
+      (record { answers = refl; ends = d .ends; leaves = d .stored; holds = sym (no-fifo (o .steps) im); logs = d .logged; fills = sym (o .quiet im) })
 
 -- ---- one result
 

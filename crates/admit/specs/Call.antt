@@ -10,7 +10,7 @@ use Rattle.params.specs.declared.mod_params.Verdict.the-variants.{Clear, Refuse
 use Rattle.params.specs.declared.mod_params.RadioError.the-variants.{BadImage, LogFull}
 use Rattle.params.specs.Errors.{Told, told, refusal, or}
 use Rattle.refusals.specs.Refusals.{unless}
-use Rattle.bus.specs.Steps.{Step, imageAfter, logAfter, endAfter, fifoAfter, bufferAfter}
+use Rattle.log.specs.Steps.{Step, imageAfter, logAfter, endAfter, fifoAfter, bufferAfter}
 
 -- ---- admission: 26, then what the arguments give, then 24
 

@@ -4,30 +4,11 @@ ghost use mathlib.Core.List.{List, [], _∷_};
 ghost use Prim.Native.Nat.{ℕ, _+_, _≤_, _<_};
 ghost use lib.ListN.{length, getD};
 ghost use Rattle.registers.specs.Values.{address};
-ghost use Rattle.bus.specs.Access.{put3, stored, store};
-ghost use Rattle.bus.specs.Steps.{Done, Read, Write, Modify, RfSwitch, ResetPin, SleepWrite};
+ghost use Rattle.log.specs.Access.{put3, store};
+ghost use Rattle.log.specs.Steps.{Done, Read, Write, Modify, SleepWrite};
+use log::append;
+use log::stored;
 use registers::radio_kind_params::Register;
-
-// One record of three bytes.
-pub fn append(log: &mut [u8], at: usize, kind: u8, addr: u8, data: u8) -> usize
-    requires { ⌜ at + 3 ≤ length (now log) ⌝ }
-    ensures { λ r. ⌜ (r ≡ at + 3) × (now (log .exit) ≡ put3 (now (log .entry)) at kind addr «data») ⌝ }
-{
-    log[at] = kind;
-    log[at + 1] = addr;
-    log[at + 2] = data;
-    at + 3
-}
-
-// What a register holds after a write: a 1 that is written to RegIrqFlags clears the flag.
-fn stored(addr: u8, v: u8, old: u8) -> u8
-    ensures { λ r. ⌜ r ≡ stored addr v old ⌝ }
-{
-    match addr {
-        0x12 => (0xff - v) & old,
-        _ => v,
-    }
-}
 
 // What the register holds; the next record goes three bytes on.
 pub fn read_register(image: &[u8], log: &mut [u8], at: usize, register: Register) -> u8
@@ -86,33 +67,4 @@ pub fn modify_register(
 {
     let old = read_register(image, log, at, register);
     write_register(image, log, at + 3, register, (keep & old) | bits)
-}
-
-// The antenna switch and the reset pin change no image.
-pub fn disable_rf_switch(log: &mut [u8], at: usize) -> usize
-    requires { ⌜ at + 3 ≤ length (now log) ⌝ }
-    ensures { λ r. ⌜ ((im : List ℕ) → Done (RfSwitch 0 ∷ []) im (now (log .entry)) at r im (now (log .exit))) ⌝ }
-{
-    append(log, at, 4, 0, 0)
-}
-
-pub fn enable_rf_switch_rx(log: &mut [u8], at: usize) -> usize
-    requires { ⌜ at + 3 ≤ length (now log) ⌝ }
-    ensures { λ r. ⌜ ((im : List ℕ) → Done (RfSwitch 1 ∷ []) im (now (log .entry)) at r im (now (log .exit))) ⌝ }
-{
-    append(log, at, 4, 0, 1)
-}
-
-pub fn enable_rf_switch_tx(log: &mut [u8], at: usize) -> usize
-    requires { ⌜ at + 3 ≤ length (now log) ⌝ }
-    ensures { λ r. ⌜ ((im : List ℕ) → Done (RfSwitch 2 ∷ []) im (now (log .entry)) at r im (now (log .exit))) ⌝ }
-{
-    append(log, at, 4, 0, 2)
-}
-
-pub fn reset(log: &mut [u8], at: usize) -> usize
-    requires { ⌜ at + 3 ≤ length (now log) ⌝ }
-    ensures { λ r. ⌜ ((im : List ℕ) → Done (ResetPin ∷ []) im (now (log .entry)) at r im (now (log .exit))) ⌝ }
-{
-    append(log, at, 5, 0, 0)
 }

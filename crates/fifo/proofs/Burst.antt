@@ -7,7 +7,7 @@ use native.Mathlib.Numerals.{add-one}
 use native.Mathlib.Omega.{arith}
 use lib.ListN.{length, take, drop, getD, set}
 use lib.Seq.{drop-cons, take-suc-set, drop-set-lt}
-use Rattle.bus.specs.Access.{laid, taken}
+use Rattle.log.specs.Access.{laid, taken}
 
 pub write-step : (bs fifo : List ℕ) (p i : ℕ) → i < length bs
     → laid (drop (i + 1) bs) ((p + 1) % 256) (set fifo p (getD bs i 0)) ≡ laid (drop i bs) p fifo

@@ -3,9 +3,9 @@ ghost use mathlib.Core.Path.{_≡_};
 ghost use mathlib.Core.List.{[], _∷_, _++_};
 ghost use Prim.Native.Nat.{_+_, _%_, _≤_, _<_};
 ghost use lib.ListN.{length, drop};
-ghost use Rattle.bus.specs.Access.{pointer, moved, laid, taken};
-ghost use Rattle.bus.specs.Steps.{Done, FifoRead, FifoWrite, fifoAfter, bufferAfter};
-use bus::append;
+ghost use Rattle.log.specs.Access.{pointer, moved, laid, taken};
+ghost use Rattle.log.specs.Steps.{Done, FifoRead, FifoWrite, fifoAfter, bufferAfter};
+use log::append;
 
 // RegFifoAddrPtr.
 const POINTER: usize = 0x0d;

@@ -1,41 +1,29 @@
 -- The starred figures are what the definitions compute: one test over the whole table, and what it says of each row.
 -- Assumes nothing.
-use mathlib.Core.Path.{_≡_, refl, ap, ap₂}
+use mathlib.Core.Path.{_≡_, refl, ap₂}
 use mathlib.Core.Bool.{Bool, true, false, _&&_}
 use mathlib.Core.List.{List, [], _∷_}
-use lib.Dec.{T, eqb, eqb→eq}
-use lib.IntN.{ℤ, pos, negsuc}
+use lib.Dec.{T}
+use lib.IntN.{ℤ}
 use Rattle.sheets.specs.Frequency.{steps, readBack, lowest}
 use Rattle.sheets.specs.Modem.{bandwidthCodes}
 use Rattle.sheets.specs.Power.{clamped, paConfig, paDac, ocp}
 use Rattle.sheets.specs.Signal.{offset, rssi}
-use Rattle.sheets.proofs.Sweep.{both}
+use Rattle.sheets.proofs.Sweep.{both, sameℤ, sameℤ→eq}
 use Rattle.refusals.specs.Refusals.{linkRefusal}
 use Rattle.figures.specs.Starred.{Row, starred}
-
-abbrev same : ℤ → ℤ → Bool
-same (pos a) (pos b) = eqb a b
-same (pos a) (negsuc b) = false
-same (negsuc a) (pos b) = false
-same (negsuc a) (negsuc b) = eqb a b
-
-same→eq : (y z : ℤ) → T (same y z) → y ≡ z
-same→eq (pos a) (pos b) t = ap pos (eqb→eq a b t)
-same→eq (pos a) (negsuc b) t = absurd t
-same→eq (negsuc a) (pos b) t = absurd t
-same→eq (negsuc a) (negsuc b) t = ap negsuc (eqb→eq a b t)
 
 abbrev alike : List ℤ → List ℤ → Bool
 alike [] [] = true
 alike [] (y ∷ ys) = false
 alike (x ∷ xs) [] = false
-alike (x ∷ xs) (y ∷ ys) = same x y && alike xs ys
+alike (x ∷ xs) (y ∷ ys) = sameℤ x y && alike xs ys
 
 alike→eq : (xs ys : List ℤ) → T (alike xs ys) → xs ≡ ys
 alike→eq [] [] t = refl
 alike→eq [] (y ∷ ys) t = absurd t
 alike→eq (x ∷ xs) [] t = absurd t
-alike→eq (x ∷ xs) (y ∷ ys) t = let p = both (same x y) (alike xs ys) t in ap₂ _∷_ (same→eq x y (p .0)) (alike→eq xs ys (p .1))
+alike→eq (x ∷ xs) (y ∷ ys) t = let p = both (sameℤ x y) (alike xs ys) t in ap₂ _∷_ (sameℤ→eq x y (p .0)) (alike→eq xs ys (p .1))
 
 abbrev holds : List Row → Bool
 holds [] = true

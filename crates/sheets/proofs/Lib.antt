@@ -1,3 +1,4 @@
 pub mod Sweep
+pub mod Lists
 pub mod Bits
 pub mod Frequency

@@ -1,12 +1,13 @@
 -- A test that is computed at each number of a range, and the laws that turn it into a fact of each of them.
 -- Assumes nothing.
-use mathlib.Core.Path.{_≡_, refl, subst}
+use mathlib.Core.Path.{_≡_, refl, ap, subst}
 use mathlib.Core.Logic.{inl, inr}
 use mathlib.Core.Bool.{Bool, true, false, not, _&&_}
 use Prim.Native.Nat.{ℕ, zero, suc, _+_, _≤_, _<_}
 use native.Mathlib.Nat.{eq-or-lt-of-le}
 use native.Mathlib.Omega.{arith}
 use lib.Dec.{T, eqb, eqb→eq}
+use lib.IntN.{ℤ, pos, negsuc}
 
 pub both : (a b : Bool) → T (a && b) → T a × T b
 both true b t = (tt, t)
@@ -46,3 +47,19 @@ same→eq false false t = refl
 
 pub alike : (a n : ℕ) (f g : ℕ → Bool) → T (every (λ k. same (f k) (g k)) a n) → (k : ℕ) → a ≤ k → k < a + n → f k ≡ g k
 alike a n f g t k h l = same→eq (f k) (g k) (at (λ i. same (f i) (g i)) a n t k h l)
+
+-- and two functions to whole numbers
+abbrev pub sameℤ : ℤ → ℤ → Bool
+sameℤ (pos a) (pos b) = eqb a b
+sameℤ (pos a) (negsuc b) = false
+sameℤ (negsuc a) (pos b) = false
+sameℤ (negsuc a) (negsuc b) = eqb a b
+
+pub sameℤ→eq : (y z : ℤ) → T (sameℤ y z) → y ≡ z
+sameℤ→eq (pos a) (pos b) t = ap pos (eqb→eq a b t)
+sameℤ→eq (pos a) (negsuc b) t = absurd t
+sameℤ→eq (negsuc a) (pos b) t = absurd t
+sameℤ→eq (negsuc a) (negsuc b) t = ap negsuc (eqb→eq a b t)
+
+pub agree : (a n : ℕ) (f g : ℕ → ℤ) → T (every (λ k. sameℤ (f k) (g k)) a n) → (k : ℕ) → a ≤ k → k < a + n → f k ≡ g k
+agree a n f g t k h l = sameℤ→eq (f k) (g k) (at (λ i. sameℤ (f i) (g i)) a n t k h l)

@@ -11,7 +11,7 @@ use Rattle.sheets.specs.declared.Variant.{Variant}
 use Rattle.sheets.specs.declared.Variant.the-variants.{Sx1272, Sx1276}
 use Rattle.sheets.specs.Frequency.{readBack}
 use Rattle.sheets.specs.Signal.{midBandThreshold, snr, offset, rssi}
-use Rattle.signal.proofs.Signed16.{agree}
+use Rattle.sheets.proofs.Sweep.{agree}
 
 -- 0xfd to 0xff: less than a whole dB below zero counts as zero
 pub snr-near-zero : (raw : ℕ) → 0xfd ≤ raw → raw < 256 → snr raw ≡ pos 0

@@ -1,11 +1,11 @@
--- Whole numbers as an i16 holds them: which fit, which are read back, and facts that are computed over a range.
+-- Whole numbers as an i16 holds them: which fit, which are read back, and bounds that are computed over a range.
 -- `mag z` is n both for n and for -(n + 1), so z is in the range of an i16 where `mag z` is below 2 ^ 15.
 -- Assumes nothing.
-use mathlib.Core.Path.{_≡_, ap}
+use mathlib.Core.Path.{_≡_}
 use mathlib.Core.Bool.{Bool, true, false, cond}
 use Prim.Native.Nat.{ℕ, suc, _+_, _-_, _≤_, _<_}
 use native.Mathlib.Omega.{arith}
-use lib.Dec.{T, eqb, ltb, eqb→eq, ltb→lt, leb→le}
+use lib.Dec.{T, ltb, ltb→lt, leb→le}
 use lib.IntN.{ℤ, pos, negsuc, _+ℤ_}
 use lib.Signed.{mag, _≤ℤ_}
 use mir.Syntax.{w16}
@@ -13,22 +13,7 @@ use mir.Val.{SFits, toZ, ofZ}
 use mir.ValLaws.{toZ-ofZ}
 use Rattle.sheets.proofs.Sweep.{every, at}
 
--- ---- computed at each number of a range: equations and bounds
-
-abbrev pub same : ℤ → ℤ → Bool
-same (pos a) (pos b) = eqb a b
-same (pos a) (negsuc b) = false
-same (negsuc a) (pos b) = false
-same (negsuc a) (negsuc b) = eqb a b
-
-same→eq : (y z : ℤ) → T (same y z) → y ≡ z
-same→eq (pos a) (pos b) t = ap pos (eqb→eq a b t)
-same→eq (pos a) (negsuc b) t = absurd t
-same→eq (negsuc a) (pos b) t = absurd t
-same→eq (negsuc a) (negsuc b) t = ap negsuc (eqb→eq a b t)
-
-pub agree : (a n : ℕ) (f g : ℕ → ℤ) → T (every (λ k. same (f k) (g k)) a n) → (k : ℕ) → a ≤ k → k < a + n → f k ≡ g k
-agree a n f g t k h l = same→eq (f k) (g k) (at (λ i. same (f i) (g i)) a n t k h l)
+-- ---- a bound, computed at each number of a range
 
 pub below : (m n : ℕ) (f : ℕ → ℤ) → T (every (λ k. ltb (mag (f k)) m) 0 n) → (k : ℕ) → k < n → mag (f k) < m
 below m n f t k h = ltb→lt (mag (f k)) m (at (λ i. ltb (mag (f i)) m) 0 n t k (omega arith) (omega arith))

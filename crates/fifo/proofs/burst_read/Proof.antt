@@ -8,7 +8,7 @@ use native.Mathlib.Nat.{sub-zero}
 use native.Mathlib.Omega.{arith}
 use denote.Ref.{now}
 use lib.ListN.{length, take, drop, take-append-drop}
-use Rattle.bus.specs.Access.{pointer, taken}
+use Rattle.log.specs.Access.{pointer, taken}
 use Rattle.fifo.proofs.Burst.{read-step}
 use Rattle.fifo.proofs.burst_read.Statement.{statement}
 use Rattle.fifo.proofs.burst_read.Tie as tie

@@ -6,7 +6,7 @@ use Prim.Native.Nat.{_+_, _-_, _%_, _≤_}
 use native.Mathlib.Omega.{arith}
 use denote.Ref.{now}
 use lib.ListN.{length, drop, drop-of-length-le}
-use Rattle.bus.specs.Access.{pointer, laid}
+use Rattle.log.specs.Access.{pointer, laid}
 use Rattle.fifo.proofs.Burst.{write-step}
 use Rattle.fifo.proofs.burst_write.Statement.{statement}
 use Rattle.fifo.proofs.burst_write.Tie as tie

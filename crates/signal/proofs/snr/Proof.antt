@@ -9,7 +9,8 @@ use lib.Signed.{quotZ}
 use mir.Syntax.{w16}
 use mir.Val.{toZ, ofZ}
 use Rattle.sheets.specs.Signal as sheet
-use Rattle.signal.proofs.Signed16.{agree, below}
+use Rattle.sheets.proofs.Sweep.{agree}
+use Rattle.signal.proofs.Signed16.{below}
 use Rattle.signal.proofs.snr.Statement.{statement}
 use Rattle.signal.proofs.snr.Tie as tie
 

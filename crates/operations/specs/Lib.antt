@@ -1,0 +1,6 @@
+pub mod Setup
+pub mod Modem
+pub mod Power
+pub mod Modes
+pub mod Packets
+pub mod Interrupts

@@ -1,0 +1,1 @@
+// What each operation is: its refusal and its steps, as definitions in specs/. Nothing here runs.

@@ -1,0 +1,50 @@
+-- `setup::init_lora` meets its contract: the verdict decides its outcome, and a clear one gives the room that the steps ask.
+-- Assumes nothing.
+use borrow.Author.Needs.{needs}
+use mathlib.Core.Path.{refl}
+use native.Mathlib.Omega.{arith}
+use denote.Ref.{now}
+use Rattle.admit.proofs.Calls.{room-for, refused, done}
+use Rattle.operations.proofs.Operations.{init-op}
+use Rattle.setup.proofs.init_lora.Statement.{statement}
+use Rattle.setup.proofs.init_lora.Tie as tie
+
+write-init-requires : tie.Need-write-init-requires
+write-init-requires c κs =
+    let told = c .before .before in
+    let verdict = told .before .before in
+    let a = verdict .before .before .before .before .before .before .before .args in
+    let room = room-for (init-op (a .board) (a .is-public-network)) (now (a .image)) (now (a .log)) (a .used) (verdict .before .before .before .before .flag .ensures) (verdict .before .init-records .ensures .0) (verdict .admit .ensures) (told .enum-told .given .1) in
+    (omega arith, room .whole)
+
+returns : tie.Need-returns
+returns c =
+    let e = c .before in
+    let verdict = e .before .before in
+    let a = verdict .before .before .before .before .before .before .before .args in
+    refused (init-op (a .board) (a .is-public-network)) (now (a .image)) (now (a .log)) (a .used) (verdict .before .before .before .before .flag .ensures) (verdict .before .init-records .ensures .0) (verdict .admit .ensures) (e .e .given .1)
+
+returns-2 : tie.Need-returns-2
+returns-2 c =
+    let w = c .before .before .before .before in
+    let told = w .before .before .before in
+    let verdict = told .before .before in
+    let a = verdict .before .before .before .before .before .before .before .args in
+    done (init-op (a .board) (a .is-public-network)) (now (a .image)) (now (a .log)) (a .used) (verdict .before .before .before .before .flag .ensures) (verdict .before .init-records .ensures .0) (verdict .admit .ensures) (told .enum-told .given .1) (w .write-init .ensures)
+
+pub init-lora-spec : {M : Type 1} → statement M
+init-lora-spec =
+    tie.close
+    (tie.spec
+    (λ c κs. search needs)
+    (λ c κs. search needs)
+    (λ c κs. search needs)
+    (λ c. search needs)
+    (λ c. search needs)
+    write-init-requires
+    (λ c. search needs)
+    (λ c. search needs)
+    returns
+    (λ c. search needs)
+    (λ c. search needs)
+    returns-2)

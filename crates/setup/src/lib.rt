@@ -1,0 +1,141 @@
+// Setting up: `init_lora`, the FIFO's base addresses, and the channel.
+ghost use mathlib.Core.Path.{_≡_};
+ghost use mathlib.Core.List.{[], _++_};
+ghost use Prim.Native.Nat.{_+_, _*_, _≤_, _<_};
+ghost use lib.ListN.{length};
+ghost use Rattle.sheets.specs.Modem.{syncWord};
+ghost use Rattle.params.specs.Answers.{tellsDone, usedDone};
+ghost use Rattle.log.specs.Steps.{Done};
+ghost use Rattle.admit.specs.Call.{Meets};
+ghost use Rattle.operations.specs.Setup.{oscillator, bases, initialization, channel, initLora, setBases, setChannel};
+ghost use Rattle.operations.proofs.Counts.{oscillatorRecords, initRecords};
+use admit::admit;
+use bus::write_register;
+use params::answers::Answer;
+use params::mod_params::Verdict;
+use registers::board::Board;
+use registers::board::reg_tcxo;
+use registers::radio_kind_params::Register;
+use sheets::Variant;
+use units::Hertz;
+
+const LORA_MAC_PUBLIC_SYNCWORD: u8 = 0x34;
+
+const LORA_MAC_PRIVATE_SYNCWORD: u8 = 0x12;
+
+const TCXO_FOR_OSCILLATOR: u8 = 0x10;
+
+// Both bases are 0, whatever was asked.
+fn write_bases(image: &mut [u8], log: &mut [u8], at: usize) -> usize
+    requires { ⌜ (at + 6 ≤ length (now log)) × (length (now image) ≡ 128) ⌝ }
+    ensures { λ r. ⌜ Done bases (now (image .entry)) (now (log .entry)) at r (now (image .exit)) (now (log .exit)) ⌝ }
+{
+    let at = write_register(image, log, at, Register::RegFifoTxBaseAddr, 0x00);
+    write_register(image, log, at, Register::RegFifoRxBaseAddr, 0x00)
+}
+
+pub fn set_tx_rx_buffer_base_address(
+    image: &mut [u8],
+    log: &mut [u8],
+    used: usize,
+    tx_base_addr: usize,
+    rx_base_addr: usize,
+) -> Answer
+    ensures { λ r. ⌜ Meets (setBases «tx_base_addr» «rx_base_addr» (now (image .entry)) (now (log .entry)) used) (tellsDone r) (usedDone r) (now (image .exit)) [] (now (log .exit)) [] ⌝ }
+{
+    let asked = refusals::base_addresses(tx_base_addr, rx_base_addr);
+    match admit(image, log, used, asked, 2) {
+        Verdict::Refused(e) => Answer::Refused(e, used),
+        Verdict::Clear => Answer::Done(write_bases(image, log, used)),
+    }
+}
+
+fn write_channel(image: &mut [u8], log: &mut [u8], at: usize, frequency: Hertz) -> usize
+    requires { ⌜ (at + 9 ≤ length (now log)) × (length (now image) ≡ 128) ⌝ }
+    ensures { λ r. ⌜ Done (channel (frequency .0)) (now (image .entry)) (now (log .entry)) at r (now (image .exit)) (now (log .exit)) ⌝ }
+{
+    let frf = frequency.steps();
+    let at = write_register(image, log, at, Register::RegFrfMsb, frf.frf_msb());
+    let at = write_register(image, log, at, Register::RegFrfMid, frf.frf_mid());
+    write_register(image, log, at, Register::RegFrfLsb, frf.frf_lsb())
+}
+
+pub fn set_channel(image: &mut [u8], log: &mut [u8], used: usize, frequency_in_hz: u32) -> Answer
+    ensures { λ r. ⌜ Meets (setChannel «frequency_in_hz» (now (image .entry)) (now (log .entry)) used) (tellsDone r) (usedDone r) (now (image .exit)) [] (now (log .exit)) [] ⌝ }
+{
+    match admit(image, log, used, Verdict::Clear, 3) {
+        Verdict::Refused(e) => Answer::Refused(e, used),
+        Verdict::Clear => Answer::Done(write_channel(image, log, used, Hertz(frequency_in_hz))),
+    }
+}
+
+// The oscillator's register is the variant's own.
+fn write_tcxo(
+    image: &mut [u8],
+    log: &mut [u8],
+    at: usize,
+    variant: Variant,
+    tcxo_used: bool,
+) -> usize
+    requires { ⌜ (at + 3 * oscillatorRecords «tcxo_used» ≤ length (now log)) × (length (now image) ≡ 128) ⌝ }
+    ensures { λ r. ⌜ Done (oscillator variant «tcxo_used») (now (image .entry)) (now (log .entry)) at r (now (image .exit)) (now (log .exit)) ⌝ }
+{
+    if tcxo_used {
+        write_register(image, log, at, reg_tcxo(variant), TCXO_FOR_OSCILLATOR)
+    } else {
+        at
+    }
+}
+
+fn syncword(is_public_network: u8) -> u8
+    ensures { λ r. ⌜ r ≡ syncWord «is_public_network» ⌝ }
+{
+    match is_public_network {
+        0 => LORA_MAC_PRIVATE_SYNCWORD,
+        _ => LORA_MAC_PUBLIC_SYNCWORD,
+    }
+}
+
+fn write_init(
+    image: &mut [u8],
+    log: &mut [u8],
+    at: usize,
+    board: Board,
+    is_public_network: u8,
+) -> usize
+    requires { ⌜ (at + 3 * initRecords (board .«tcxo_used») ≤ length (now log)) × (length (now image) ≡ 128) ⌝ }
+    ensures { λ r. ⌜ Done (initialization board «is_public_network») (now (image .entry)) (now (log .entry)) at r (now (image .exit)) (now (log .exit)) ⌝ }
+{
+    let variant = board.variant;
+    let at = write_tcxo(image, log, at, variant, board.tcxo_used);
+    let at = write_register(
+        image,
+        log,
+        at,
+        Register::RegSyncWord,
+        syncword(is_public_network),
+    );
+    write_bases(image, log, at)
+}
+
+fn init_records(tcxo_used: bool) -> usize
+    ensures { λ r. ⌜ (r ≡ initRecords «tcxo_used») × (r < 256) ⌝ }
+{
+    if tcxo_used { 4 } else { 3 }
+}
+
+pub fn init_lora(
+    image: &mut [u8],
+    log: &mut [u8],
+    used: usize,
+    board: Board,
+    is_public_network: u8,
+) -> Answer
+    ensures { λ r. ⌜ Meets (initLora board «is_public_network» (now (image .entry)) (now (log .entry)) used) (tellsDone r) (usedDone r) (now (image .exit)) [] (now (log .exit)) [] ⌝ }
+{
+    let asked = refusals::flag(is_public_network);
+    match admit(image, log, used, asked, init_records(board.tcxo_used)) {
+        Verdict::Refused(e) => Answer::Refused(e, used),
+        Verdict::Clear => Answer::Done(write_init(image, log, used, board, is_public_network)),
+    }
+}
