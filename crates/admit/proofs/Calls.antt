@@ -1,11 +1,10 @@
 -- Laws of calls: what a clear verdict says, and that an outcome allows one result only.
 -- Assumes nothing.
 use mathlib.Core.Path.{_≡_, refl, sym, _∙_}
-use mathlib.Core.Bool.{Bool, true, false, _&&_}
+use mathlib.Core.Bool.{_&&_}
 use mathlib.Core.List.{List, [], _∷_}
 use Prim.Native.Nat.{ℕ, _+_, _*_, _%_, _≤_}
-use native.Mathlib.Omega.{arith}
-use lib.Dec.{T, leb, eqb, leb→le, eqb→eq}
+use lib.Dec.{leb, eqb, leb→le, eqb→eq}
 use lib.ListN.{length}
 use Rattle.sheets.proofs.Sweep.{both}
 use Rattle.params.specs.declared.mod_params.RadioError.{RadioError}
@@ -14,22 +13,12 @@ use Rattle.params.specs.declared.mod_params.Verdict.{Verdict}
 use Rattle.params.specs.declared.mod_params.Verdict.the-variants.{Clear, Refused}
 use Rattle.params.specs.Errors.{Told, refusal, or}
 use Rattle.refusals.specs.Refusals.{unless}
+use Rattle.refusals.proofs.Clear.{passes, both-clear}
 use Rattle.log.specs.Access.{Access, read, write, fifoRead, fifoWrite, rfSwitch, resetPin, sleepWrite, laid, fifoBy}
 use Rattle.log.specs.Steps.{Step, accesses, fifoPlayed, endAfter, fifoAfter, Done, Makes, Quiet}
 use Rattle.admit.specs.Call.{formed, formedFifo, admitted, admittedFifo, Outcome, Meets, call}
 
 -- ---- a clear verdict
-
-clear≢refused : (e : RadioError) → Clear ≡ Refused e → ⊥
-clear≢refused e p = let z : _≡_ {A = ℕ} 0 1 = cc in omega arith
-
-passes : (b : Bool) (e : RadioError) → unless b e ≡ Clear → T b
-passes true e p = tt
-passes false e p = absurd (clear≢refused e (sym p))
-
-both-clear : (v w : Verdict) → or v w ≡ Clear → (v ≡ Clear) × (w ≡ Clear)
-both-clear Clear w p = (refl, p)
-both-clear (Refused e) w p = absurd (clear≢refused e (sym p))
 
 -- What a call that is admitted may count on.
 pub record Room (asked : Verdict) (end : ℕ) (im log : List ℕ) : Type 0 where

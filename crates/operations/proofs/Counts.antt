@@ -11,7 +11,7 @@ use Rattle.sheets.specs.declared.Variant.the-variants.{Sx1272, Sx1276}
 use Rattle.sheets.specs.Interrupts.{Activity}
 use Rattle.log.specs.Steps.{Makes, Quiet}
 use Rattle.operations.specs.Setup.{oscillator, network, bases, channel}
-use Rattle.operations.specs.Modem.{modulation, packet}
+use Rattle.operations.specs.Modem.{modulation, framing, packet}
 use Rattle.operations.specs.Power.{power}
 use Rattle.operations.specs.Modes.{standby, sleep, resetting, transmission, detecting, reception, carrierTest}
 use Rattle.operations.specs.Packets.{sending, fetching, measuring}
@@ -42,9 +42,12 @@ bases-count im at = omega arith
 pub channel-count : (hz : ℕ) → Makes (channel hz) 3
 channel-count hz im at = omega arith
 
+abbrev pub modemRecords : Variant → ℕ
+modemRecords Sx1272 = 4
+modemRecords Sx1276 = 8
+
 abbrev pub modulationRecords : Variant → ℕ
-modulationRecords Sx1272 = 7
-modulationRecords Sx1276 = 11
+modulationRecords v = 3 + modemRecords v
 
 pub modulation-count : (v : Variant) (sf bw cr flag : ℕ) → Makes (modulation v sf bw cr flag) (modulationRecords v)
 modulation-count Sx1272 sf bw cr flag im at = omega arith
@@ -54,9 +57,16 @@ pub modulation-quiet : (v : Variant) (sf bw cr flag : ℕ) → Quiet (modulation
 modulation-quiet Sx1272 sf bw cr flag im = refl
 modulation-quiet Sx1276 sf bw cr flag im = refl
 
+abbrev pub framingRecords : Variant → ℕ
+framingRecords Sx1272 = 2
+framingRecords Sx1276 = 4
+
+pub framing-count : (v : Variant) (implicit crc : ℕ) → Makes (framing v implicit crc) (framingRecords v)
+framing-count Sx1272 implicit crc im at = omega arith
+framing-count Sx1276 implicit crc im at = omega arith
+
 abbrev pub packetRecords : Variant → ℕ
-packetRecords Sx1272 = 6
-packetRecords Sx1276 = 8
+packetRecords v = 4 + framingRecords v
 
 pub packet-count : (v : Variant) (n implicit crc iq : ℕ) → Makes (packet v n implicit crc iq) (packetRecords v)
 packet-count Sx1272 n implicit crc iq im at = omega arith

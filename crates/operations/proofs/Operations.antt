@@ -22,7 +22,7 @@ use Rattle.log.specs.Steps.{Step, Makes, Quiet}
 use Rattle.admit.specs.Call.{well}
 use Rattle.admit.proofs.Calls.{Operation}
 use Rattle.operations.specs.Setup.{initialization, bases, channel}
-use Rattle.operations.specs.Modem.{modulationNamed, modulationHad, modulation, packetNamed, packet}
+use Rattle.operations.specs.Modem.{modulationRefusal, modulationSteps, packetRefusal, packetSteps}
 use Rattle.operations.specs.Power.{power}
 use Rattle.operations.specs.Modes.{standby, sleep, resetting, transmission, detecting, reception, carrierTest, rxRefusal, rxWindow, rxOpMode}
 use Rattle.operations.specs.Packets.{measuring, measured}
@@ -45,17 +45,13 @@ channel-op hz = plain Clear (channel hz) 3 (count.channel-count hz) (λ im. refl
 
 abbrev pub modulation-op : Variant → ModulationParams → Operation
 modulation-op v m =
-    plain
-    (or (modulationNamed (m .«spreading_factor») (m .bandwidth) (m .«coding_rate»))
-    (or (flag (m .«low_data_rate_optimize»)) (modulationHad v (m .«spreading_factor») (m .bandwidth))))
-    (modulation v (m .«spreading_factor») (m .bandwidth) (m .«coding_rate») (m .«low_data_rate_optimize»)) (count.modulationRecords v)
+    plain (modulationRefusal v m) (modulationSteps v m) (count.modulationRecords v)
     (count.modulation-count v (m .«spreading_factor») (m .bandwidth) (m .«coding_rate») (m .«low_data_rate_optimize»))
     (count.modulation-quiet v (m .«spreading_factor») (m .bandwidth) (m .«coding_rate») (m .«low_data_rate_optimize»))
 
 abbrev pub packet-op : Variant → PacketParams → Operation
 packet-op v p =
-    plain (packetNamed (p .«implicit_header») (p .«crc_on») (p .«iq_inverted»))
-    (packet v (p .«preamble_length») (p .«implicit_header») (p .«crc_on») (p .«iq_inverted»)) (count.packetRecords v)
+    plain (packetRefusal p) (packetSteps v p) (count.packetRecords v)
     (count.packet-count v (p .«preamble_length») (p .«implicit_header») (p .«crc_on») (p .«iq_inverted»))
     (count.packet-quiet v (p .«preamble_length») (p .«implicit_header») (p .«crc_on») (p .«iq_inverted»))
 

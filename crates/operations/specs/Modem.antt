@@ -82,16 +82,23 @@ packet v n implicit crc iq = preamble n ++ (framing v implicit crc ++ inversion 
 
 -- ---- the calls
 
+abbrev pub modulationRefusal : Variant → ModulationParams → Verdict
+modulationRefusal v m =
+    or (modulationNamed (m .«spreading_factor») (m .bandwidth) (m .«coding_rate»))
+    (or (flag (m .«low_data_rate_optimize»)) (modulationHad v (m .«spreading_factor») (m .bandwidth)))
+
+abbrev pub modulationSteps : Variant → ModulationParams → List Step
+modulationSteps v m = modulation v (m .«spreading_factor») (m .bandwidth) (m .«coding_rate») (m .«low_data_rate_optimize»)
+
 abbrev pub setModulation : Variant → ModulationParams → List ℕ → List ℕ → ℕ → Outcome
-setModulation v m =
-    call
-    (or (modulationNamed (m .«spreading_factor») (m .bandwidth) (m .«coding_rate»))
-    (or (flag (m .«low_data_rate_optimize»)) (modulationHad v (m .«spreading_factor») (m .bandwidth))))
-    well
-    (modulation v (m .«spreading_factor») (m .bandwidth) (m .«coding_rate») (m .«low_data_rate_optimize»))
+setModulation v m = call (modulationRefusal v m) well (modulationSteps v m)
+
+abbrev pub packetRefusal : PacketParams → Verdict
+packetRefusal p = packetNamed (p .«implicit_header») (p .«crc_on») (p .«iq_inverted»)
 
 -- `payload_length` reaches no register here
+abbrev pub packetSteps : Variant → PacketParams → List Step
+packetSteps v p = packet v (p .«preamble_length») (p .«implicit_header») (p .«crc_on») (p .«iq_inverted»)
+
 abbrev pub setPacket : Variant → PacketParams → List ℕ → List ℕ → ℕ → Outcome
-setPacket v p =
-    call (packetNamed (p .«implicit_header») (p .«crc_on») (p .«iq_inverted»)) well
-    (packet v (p .«preamble_length») (p .«implicit_header») (p .«crc_on») (p .«iq_inverted»))
+setPacket v p = call (packetRefusal p) well (packetSteps v p)

@@ -1,4 +1,4 @@
-// Setting up: `init_lora`, the FIFO's base addresses, and the channel.
+// Setting up: `init_lora` and the FIFO's base addresses.
 ghost use mathlib.Core.Path.{_≡_};
 ghost use mathlib.Core.List.{[], _++_};
 ghost use Prim.Native.Nat.{_+_, _*_, _≤_, _<_};
@@ -7,7 +7,7 @@ ghost use Rattle.sheets.specs.Modem.{syncWord};
 ghost use Rattle.params.specs.Answers.{tellsDone, usedDone};
 ghost use Rattle.log.specs.Steps.{Done};
 ghost use Rattle.admit.specs.Call.{Meets};
-ghost use Rattle.operations.specs.Setup.{oscillator, bases, initialization, channel, initLora, setBases, setChannel};
+ghost use Rattle.operations.specs.Setup.{oscillator, bases, initialization, initLora, setBases};
 ghost use Rattle.operations.proofs.Counts.{oscillatorRecords, initRecords};
 use admit::admit;
 use bus::write_register;
@@ -17,7 +17,6 @@ use registers::board::Board;
 use registers::board::reg_tcxo;
 use registers::radio_kind_params::Register;
 use sheets::Variant;
-use units::Hertz;
 
 const LORA_MAC_PUBLIC_SYNCWORD: u8 = 0x34;
 
@@ -47,25 +46,6 @@ pub fn set_tx_rx_buffer_base_address(
     match admit(image, log, used, asked, 2) {
         Verdict::Refused(e) => Answer::Refused(e, used),
         Verdict::Clear => Answer::Done(write_bases(image, log, used)),
-    }
-}
-
-fn write_channel(image: &mut [u8], log: &mut [u8], at: usize, frequency: Hertz) -> usize
-    requires { ⌜ (at + 9 ≤ length (now log)) × (length (now image) ≡ 128) ⌝ }
-    ensures { λ r. ⌜ Done (channel (frequency .0)) (now (image .entry)) (now (log .entry)) at r (now (image .exit)) (now (log .exit)) ⌝ }
-{
-    let frf = frequency.steps();
-    let at = write_register(image, log, at, Register::RegFrfMsb, frf.frf_msb());
-    let at = write_register(image, log, at, Register::RegFrfMid, frf.frf_mid());
-    write_register(image, log, at, Register::RegFrfLsb, frf.frf_lsb())
-}
-
-pub fn set_channel(image: &mut [u8], log: &mut [u8], used: usize, frequency_in_hz: u32) -> Answer
-    ensures { λ r. ⌜ Meets (setChannel «frequency_in_hz» (now (image .entry)) (now (log .entry)) used) (tellsDone r) (usedDone r) (now (image .exit)) [] (now (log .exit)) [] ⌝ }
-{
-    match admit(image, log, used, Verdict::Clear, 3) {
-        Verdict::Refused(e) => Answer::Refused(e, used),
-        Verdict::Clear => Answer::Done(write_channel(image, log, used, Hertz(frequency_in_hz))),
     }
 }
 

@@ -1,13 +1,13 @@
 -- Laws of fields: a field that is put into a byte reads back, and leaves every other field as it was.
 -- Assumes nothing.
 use mathlib.Core.Path.{_≡_, refl, sym, ap, _∙_}
-use Prim.Native.Nat.{ℕ, _+_, _-_, _*_, _/_, _%_, _^_, _<_, min, max}
+use Prim.Native.Nat.{ℕ, zero, suc, _+_, _-_, _*_, _/_, _%_, _^_, _<_, min, max}
 use native.Mathlib.Omega.{arith}
 use lib.Arith.{bin-ind}
 use lib.Pow.{shl-shr}
 use lib.Bits.{bitAnd, bitOr, and-step, or-step, and-comm, and-mask, and-high, or-disjoint, or-zero-r, or-lt, and-le-l}
 use native.Mathlib.Nat.{mod-eq-of-lt}
-use Rattle.sheets.specs.Bits.{Field, width, mask, others, at, get, replaced, put}
+use Rattle.sheets.specs.Bits.{Field, width, mask, others, up, at, get, replaced, put}
 use Rattle.sheets.proofs.Sweep.{equal}
 
 -- ---- and, or
@@ -62,16 +62,23 @@ outside m n h k e =
     let split : bitAnd m 255 ≡ bitAnd m (255 - n) = ap (bitAnd m) (sym whole) ∙ and-or m n (255 - n) ∙ rw e in
     sym split ∙ and-mask m 8 ∙ mod-eq-of-lt h
 
+up-is : (k v : ℕ) → up k v ≡ v * 2 ^ k
+up-is zero v = omega arith
+up-is (suc k) v = refl
+
 -- what a field holds, in its place
 in-place : (f : Field) (b : ℕ) → bitAnd (mask f) b ≡ at f (get f b)
-in-place f b = and-comm (mask f) b ∙ and-high b (width f) (f .low)
+in-place f b = and-comm (mask f) b ∙ and-high b (width f) (f .low) ∙ sym (up-is (f .low) (get f b))
+
+at-down : (f : Field) (v : ℕ) → at f v / 2 ^ f .low ≡ v
+at-down f v = ap (λ (x : ℕ). x / 2 ^ f .low) (up-is (f .low) v) ∙ shl-shr v (f .low)
 
 same-place : (f : Field) (v w : ℕ) → at f v ≡ at f w → v ≡ w
-same-place f v w e = sym (shl-shr v (f .low)) ∙ ap (λ (x : ℕ). x / 2 ^ f .low) e ∙ shl-shr w (f .low)
+same-place f v w e = sym (at-down f v) ∙ ap (λ (x : ℕ). x / 2 ^ f .low) e ∙ at-down f w
 
 -- a value that fits the field stays within it
 within : (f : Field) (v : ℕ) → v < 2 ^ width f → bitAnd (mask f) (at f v) ≡ at f v
-within f v h = in-place f (at f v) ∙ ap (at f) (ap (λ (x : ℕ). x % 2 ^ width f) (shl-shr v (f .low)) ∙ mod-eq-of-lt h)
+within f v h = in-place f (at f v) ∙ ap (at f) (ap (λ (x : ℕ). x % 2 ^ width f) (at-down f v) ∙ mod-eq-of-lt h)
 
 module _ (f : Field) (v b : ℕ) (inside : mask f < 256) (fits : v < 2 ^ width f) where
   pub reads-back : get f (put f v b) ≡ v

@@ -1,5 +1,5 @@
 -- Fields: bits h..l of a register, as the sheets write them, and what putting a value into one makes of the register's byte.
-use Prim.Native.Nat.{ℕ, _+_, _-_, _*_, _/_, _%_, _^_}
+use Prim.Native.Nat.{ℕ, zero, suc, _+_, _-_, _*_, _/_, _%_, _^_}
 use lib.Bits.{bitAnd, bitOr}
 
 pub record Field : Type 0 where
@@ -27,9 +27,14 @@ mask f = 2 ^ (width f + f .low) - 2 ^ f .low
 abbrev pub others : Field → ℕ
 others f = 255 - mask f
 
+-- a value moved up by k bits
+abbrev pub up : ℕ → ℕ → ℕ
+up zero v = v
+up (suc k) v = v * 2 ^ suc k
+
 -- a value in the field's place
 abbrev pub at : Field → ℕ → ℕ
-at f v = v * 2 ^ f .low
+at f v = up (f .low) v
 
 -- the value that the field holds in a byte
 abbrev pub get : Field → ℕ → ℕ

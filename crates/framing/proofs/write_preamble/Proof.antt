@@ -1,0 +1,20 @@
+-- `framing::write_preamble` meets its contract: two writes.
+-- Assumes nothing.
+use borrow.Author.Needs.{needs}
+use Rattle.framing.proofs.write_preamble.Statement.{statement}
+use Rattle.framing.proofs.write_preamble.Tie as tie
+
+returns : tie.Need-returns
+returns c = record { ends = cc; logged = cc; stored = cc }
+
+pub write-preamble-spec : {M : Type 1} → statement M
+write-preamble-spec =
+    tie.close
+    (tie.spec
+    (λ c. search needs)
+    (λ c. search needs)
+    (λ c κs. search needs)
+    (λ c κs. search needs)
+    (λ c. search needs)
+    (λ c. search needs)
+    returns)

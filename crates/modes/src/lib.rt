@@ -1,0 +1,93 @@
+// What the radio does: reset, standby, sleep and transmit.
+ghost use mathlib.Core.Path.{_≡_};
+ghost use mathlib.Core.List.{[]};
+ghost use Prim.Native.Nat.{_+_, _≤_};
+ghost use lib.ListN.{length};
+ghost use Rattle.params.specs.Answers.{tellsDone, usedDone};
+ghost use Rattle.log.specs.Steps.{Done};
+ghost use Rattle.admit.specs.Call.{Meets};
+ghost use Rattle.operations.specs.Modes.{standby, sleep, resetting, transmission, setStandby, setSleep, reset, doTx};
+use admit::admit;
+use bus::write_register;
+use bus::write_sleep;
+use log::disable_rf_switch;
+use log::enable_rf_switch_tx;
+use params::answers::Answer;
+use params::mod_params::Verdict;
+use registers::radio_kind_params::LoRaMode;
+use registers::radio_kind_params::Register;
+
+fn write_standby(image: &mut [u8], log: &mut [u8], at: usize) -> usize
+    requires { ⌜ (at + 6 ≤ length (now log)) × (length (now image) ≡ 128) ⌝ }
+    ensures { λ r. ⌜ Done standby (now (image .entry)) (now (log .entry)) at r (now (image .exit)) (now (log .exit)) ⌝ }
+{
+    let at = write_register(
+        image,
+        log,
+        at,
+        Register::RegOpMode,
+        LoRaMode::Standby.value(),
+    );
+    disable_rf_switch(log, at)
+}
+
+pub fn set_standby(image: &mut [u8], log: &mut [u8], used: usize) -> Answer
+    ensures { λ r. ⌜ Meets (setStandby (now (image .entry)) (now (log .entry)) used) (tellsDone r) (usedDone r) (now (image .exit)) [] (now (log .exit)) [] ⌝ }
+{
+    match admit(image, log, used, Verdict::Clear, 2) {
+        Verdict::Refused(e) => Answer::Refused(e, used),
+        Verdict::Clear => Answer::Done(write_standby(image, log, used)),
+    }
+}
+
+fn write_sleeping(image: &mut [u8], log: &mut [u8], at: usize) -> usize
+    requires { ⌜ (at + 6 ≤ length (now log)) × (length (now image) ≡ 128) ⌝ }
+    ensures { λ r. ⌜ Done sleep (now (image .entry)) (now (log .entry)) at r (now (image .exit)) (now (log .exit)) ⌝ }
+{
+    let at = disable_rf_switch(log, at);
+    write_sleep(image, log, at, Register::RegOpMode, LoRaMode::Sleep.value())
+}
+
+pub fn set_sleep(image: &mut [u8], log: &mut [u8], used: usize) -> Answer
+    ensures { λ r. ⌜ Meets (setSleep (now (image .entry)) (now (log .entry)) used) (tellsDone r) (usedDone r) (now (image .exit)) [] (now (log .exit)) [] ⌝ }
+{
+    match admit(image, log, used, Verdict::Clear, 2) {
+        Verdict::Refused(e) => Answer::Refused(e, used),
+        Verdict::Clear => Answer::Done(write_sleeping(image, log, used)),
+    }
+}
+
+// Sleep after the reset, so that the LoRa flag is set.
+fn write_reset(image: &mut [u8], log: &mut [u8], at: usize) -> usize
+    requires { ⌜ (at + 9 ≤ length (now log)) × (length (now image) ≡ 128) ⌝ }
+    ensures { λ r. ⌜ Done resetting (now (image .entry)) (now (log .entry)) at r (now (image .exit)) (now (log .exit)) ⌝ }
+{
+    let at = log::reset(log, at);
+    write_sleeping(image, log, at)
+}
+
+pub fn reset(image: &mut [u8], log: &mut [u8], used: usize) -> Answer
+    ensures { λ r. ⌜ Meets (reset (now (image .entry)) (now (log .entry)) used) (tellsDone r) (usedDone r) (now (image .exit)) [] (now (log .exit)) [] ⌝ }
+{
+    match admit(image, log, used, Verdict::Clear, 3) {
+        Verdict::Refused(e) => Answer::Refused(e, used),
+        Verdict::Clear => Answer::Done(write_reset(image, log, used)),
+    }
+}
+
+fn write_tx(image: &mut [u8], log: &mut [u8], at: usize) -> usize
+    requires { ⌜ (at + 6 ≤ length (now log)) × (length (now image) ≡ 128) ⌝ }
+    ensures { λ r. ⌜ Done transmission (now (image .entry)) (now (log .entry)) at r (now (image .exit)) (now (log .exit)) ⌝ }
+{
+    let at = enable_rf_switch_tx(log, at);
+    write_register(image, log, at, Register::RegOpMode, LoRaMode::Tx.value())
+}
+
+pub fn do_tx(image: &mut [u8], log: &mut [u8], used: usize) -> Answer
+    ensures { λ r. ⌜ Meets (doTx (now (image .entry)) (now (log .entry)) used) (tellsDone r) (usedDone r) (now (image .exit)) [] (now (log .exit)) [] ⌝ }
+{
+    match admit(image, log, used, Verdict::Clear, 2) {
+        Verdict::Refused(e) => Answer::Refused(e, used),
+        Verdict::Clear => Answer::Done(write_tx(image, log, used)),
+    }
+}

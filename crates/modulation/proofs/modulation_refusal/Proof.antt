@@ -1,0 +1,19 @@
+-- `modulation::modulation_refusal` meets its contract: the verdicts follow each other.
+-- Assumes nothing.
+use borrow.Author.Needs.{needs}
+use Rattle.modulation.proofs.modulation_refusal.Statement.{statement}
+use Rattle.modulation.proofs.modulation_refusal.Tie as tie
+
+returns : tie.Need-returns
+returns c = cc
+
+pub modulation-refusal-spec : {M : Type 1} → statement M
+modulation-refusal-spec =
+    tie.close
+    (tie.spec
+    (λ c κs. search needs)
+    (λ c κs. search needs)
+    (λ c κs. search needs)
+    (λ c κs. search needs)
+    (λ c κs. search needs)
+    returns)

@@ -1,0 +1,2 @@
+pub mod FifoCalls
+pub mod Fetched

@@ -1,0 +1,99 @@
+// Transmit power and the time in which the amplifier comes up.
+ghost use mathlib.Core.Path.{_≡_};
+ghost use mathlib.Core.List.{[]};
+ghost use Prim.Native.Nat.{_+_, _*_, _≤_, _<_};
+ghost use lib.ListN.{length};
+ghost use Rattle.sheets.specs.Power.{paRamp};
+ghost use Rattle.params.specs.Answers.{tellsDone, usedDone};
+ghost use Rattle.registers.specs.Values as value;
+ghost use Rattle.log.specs.Steps.{Done};
+ghost use Rattle.admit.specs.Call.{Meets};
+ghost use Rattle.operations.specs.Power.{amplifier, rampCode, power, setPower};
+ghost use Rattle.operations.proofs.Counts.{powerRecords};
+use admit::admit;
+use bus::write_register;
+use params::answers::Answer;
+use params::mod_params::Verdict;
+use registers::board::Board;
+use registers::board::ramp_bit;
+use registers::radio_kind_params::RampTime;
+use registers::radio_kind_params::Register;
+use sheets::Variant;
+
+fn set_tx_power(
+    image: &mut [u8],
+    log: &mut [u8],
+    at: usize,
+    variant: Variant,
+    p_out: i32,
+    tx_boost: bool,
+) -> usize
+    requires { ⌜ (at + 3 * powerRecords variant ≤ length (now log)) × (length (now image) ≡ 128) ⌝ }
+    ensures { λ r. ⌜ Done (amplifier variant «tx_boost» «p_out») (now (image .entry)) (now (log .entry)) at r (now (image .exit)) (now (log .exit)) ⌝ }
+{
+    match variant {
+        Variant::Sx1272 => sx1272::set_tx_power(image, log, at, p_out, tx_boost),
+        Variant::Sx1276 => sx1276::set_tx_power(image, log, at, p_out, tx_boost),
+    }
+}
+
+// Fast before a transmission, slow when a link is programmed.
+fn ramp_time(is_tx_prep: u8) -> RampTime
+    ensures { λ r. ⌜ value.rampCode r ≡ rampCode «is_tx_prep» ⌝ }
+{
+    match is_tx_prep {
+        0 => RampTime::Ramp250Us,
+        _ => RampTime::Ramp40Us,
+    }
+}
+
+fn ramp_value(variant: Variant, is_tx_prep: u8) -> u8
+    ensures { λ r. ⌜ r ≡ paRamp variant (rampCode «is_tx_prep») ⌝ }
+{
+    let ramp_time = ramp_time(is_tx_prep);
+    ramp_bit(variant) + ramp_time.value()
+}
+
+fn write_power(
+    image: &mut [u8],
+    log: &mut [u8],
+    at: usize,
+    board: Board,
+    p_out: i32,
+    is_tx_prep: u8,
+) -> usize
+    requires { ⌜ (at + 3 * powerRecords (board .variant) ≤ length (now log)) × (length (now image) ≡ 128) ⌝ }
+    ensures { λ r. ⌜ Done (power (board .variant) (board .«tx_boost») «p_out» «is_tx_prep») (now (image .entry)) (now (log .entry)) at r (now (image .exit)) (now (log .exit)) ⌝ }
+{
+    let variant = board.variant;
+    let at = set_tx_power(image, log, at, variant, p_out, board.tx_boost);
+    let val = ramp_value(variant, is_tx_prep);
+    write_register(image, log, at, Register::RegPaRamp, val)
+}
+
+fn power_records(variant: Variant) -> usize
+    ensures { λ r. ⌜ (r ≡ powerRecords variant) × (r < 256) ⌝ }
+{
+    match variant {
+        Variant::Sx1272 => 3,
+        Variant::Sx1276 => 4,
+    }
+}
+
+pub fn set_tx_power_and_ramp_time(
+    image: &mut [u8],
+    log: &mut [u8],
+    used: usize,
+    board: Board,
+    p_out: i32,
+    is_tx_prep: u8,
+) -> Answer
+    ensures { λ r. ⌜ Meets (setPower board «p_out» «is_tx_prep» (now (image .entry)) (now (log .entry)) used) (tellsDone r) (usedDone r) (now (image .exit)) [] (now (log .exit)) [] ⌝ }
+{
+    let asked = refusals::flag(is_tx_prep);
+    let variant = board.variant;
+    match admit(image, log, used, asked, power_records(variant)) {
+        Verdict::Refused(e) => Answer::Refused(e, used),
+        Verdict::Clear => Answer::Done(write_power(image, log, used, board, p_out, is_tx_prep)),
+    }
+}

@@ -1,0 +1,167 @@
+// Listening: `do_rx` and `do_cad`.
+ghost use mathlib.Core.Path.{_≡_};
+ghost use mathlib.Core.List.{[]};
+ghost use Prim.Native.Nat.{_+_, _≤_};
+ghost use lib.ListN.{length};
+ghost use Rattle.sheets.specs.Receive.{lna, window};
+ghost use Rattle.params.specs.Answers.{tellsDone, usedDone};
+ghost use Rattle.log.specs.Steps.{Done};
+ghost use Rattle.admit.specs.Call.{Meets};
+ghost use Rattle.operations.specs.Modes.{detecting, waiting, listening, reception, rxRefusal, rxWindow, rxOpMode, doCad, doRx};
+use admit::admit;
+use bus::modify_register;
+use bus::write_register;
+use log::enable_rf_switch_rx;
+use mode_codes::RxModeCode;
+use mode_codes::rx_mode;
+use params::answers::Answer;
+use params::mod_params::RadioError;
+use params::mod_params::RxMode;
+use params::mod_params::Verdict;
+use registers::radio_kind_params::LnaGain;
+use registers::radio_kind_params::LoRaMode;
+use registers::radio_kind_params::Register;
+
+fn lna_gain(rx_boost: bool) -> u8
+    ensures { λ r. ⌜ r ≡ lna «rx_boost» ⌝ }
+{
+    if rx_boost {
+        LnaGain::boosted_value()
+    } else {
+        LnaGain::value()
+    }
+}
+
+fn write_cad(image: &mut [u8], log: &mut [u8], at: usize, rx_boost: bool) -> usize
+    requires { ⌜ (at + 9 ≤ length (now log)) × (length (now image) ≡ 128) ⌝ }
+    ensures { λ r. ⌜ Done (detecting «rx_boost») (now (image .entry)) (now (log .entry)) at r (now (image .exit)) (now (log .exit)) ⌝ }
+{
+    let at = enable_rf_switch_rx(log, at);
+    let at = write_register(image, log, at, Register::RegLna, lna_gain(rx_boost));
+    write_register(image, log, at, Register::RegOpMode, LoRaMode::Cad.value())
+}
+
+pub fn do_cad(image: &mut [u8], log: &mut [u8], used: usize, rx_boost: bool) -> Answer
+    ensures { λ r. ⌜ Meets (doCad «rx_boost» (now (image .entry)) (now (log .entry)) used) (tellsDone r) (usedDone r) (now (image .exit)) [] (now (log .exit)) [] ⌝ }
+{
+    match admit(image, log, used, Verdict::Clear, 3) {
+        Verdict::Refused(e) => Answer::Refused(e, used),
+        Verdict::Clear => Answer::Done(write_cad(image, log, used, rx_boost)),
+    }
+}
+
+// The Rust's `set_lora_symbol_num_timeout`: how many symbols a receive waits for a preamble.
+fn write_window(image: &mut [u8], log: &mut [u8], at: usize, symbol_num: u16) -> usize
+    requires { ⌜ (at + 9 ≤ length (now log)) × (length (now image) ≡ 128) ⌝ }
+    ensures { λ r. ⌜ Done (waiting «symbol_num») (now (image .entry)) (now (log .entry)) at r (now (image .exit)) (now (log .exit)) ⌝ }
+{
+    let symbol_num_msb = (symbol_num / 256 % 4) as u8;
+    let symbol_num_lsb = (symbol_num % 256) as u8;
+    let at = modify_register(
+        image,
+        log,
+        at,
+        Register::RegModemConfig2,
+        0xfc,
+        symbol_num_msb,
+    );
+    write_register(image, log, at, Register::RegSymbTimeoutLsb, symbol_num_lsb)
+}
+
+// A FIFO from its start, and packets of any length.
+fn write_listening(image: &mut [u8], log: &mut [u8], at: usize, rx_boost: bool, mode: u8) -> usize
+    requires { ⌜ (at + 12 ≤ length (now log)) × (length (now image) ≡ 128) ⌝ }
+    ensures { λ r. ⌜ Done (listening «rx_boost» mode) (now (image .entry)) (now (log .entry)) at r (now (image .exit)) (now (log .exit)) ⌝ }
+{
+    let at = write_register(image, log, at, Register::RegLna, lna_gain(rx_boost));
+    let at = write_register(image, log, at, Register::RegFifoAddrPtr, 0x00);
+    let at = write_register(image, log, at, Register::RegPayloadLength, 0xff);
+    write_register(image, log, at, Register::RegOpMode, mode)
+}
+
+fn write_rx(
+    image: &mut [u8],
+    log: &mut [u8],
+    at: usize,
+    rx_boost: bool,
+    symbol_num: u16,
+    mode: u8,
+) -> usize
+    requires { ⌜ (at + 24 ≤ length (now log)) × (length (now image) ≡ 128) ⌝ }
+    ensures { λ r. ⌜ Done (reception «rx_boost» «symbol_num» mode) (now (image .entry)) (now (log .entry)) at r (now (image .exit)) (now (log .exit)) ⌝ }
+{
+    let at = enable_rf_switch_rx(log, at);
+    let at = write_window(image, log, at, symbol_num);
+    write_listening(image, log, at, rx_boost, mode)
+}
+
+// 4 to 1023 symbols.
+fn symbols(n: u16) -> u16
+    ensures { λ r. ⌜ r ≡ window n ⌝ }
+{
+    if n < 4 {
+        return 4;
+    }
+    if 1023 < n {
+        return 1023;
+    }
+    n
+}
+
+// A receive mode as the registers want it, or why it is refused.
+struct Reception {
+    asked: Verdict,
+    symbol_num: u16,
+    mode: u8,
+}
+
+fn refused(e: RadioError) -> Reception
+    ensures { λ r. ⌜ (r .asked ≡ Verdict.Refused e) × ((r .«symbol_num» ≡ 0) × (r .mode ≡ 0x85)) ⌝ }
+{
+    Reception {
+        asked: Verdict::Refused(e),
+        symbol_num: 0,
+        mode: 0x85,
+    }
+}
+
+fn received(code: RxModeCode) -> Reception
+    ensures { λ r. ⌜ (r .asked ≡ rxRefusal code) × ((r .«symbol_num» ≡ rxWindow code) × (r .mode ≡ rxOpMode code)) ⌝ }
+{
+    match code {
+        RxModeCode::NoCase => refused(RadioError::InvalidConfiguration),
+        RxModeCode::Named(m) => match m {
+            RxMode::DutyCycle => refused(RadioError::DutyCycleUnsupported),
+            RxMode::Continuous => Reception {
+                asked: Verdict::Clear,
+                symbol_num: 0,
+                mode: 0x85,
+            },
+            RxMode::Single(n) => Reception {
+                asked: Verdict::Clear,
+                symbol_num: symbols(n),
+                mode: 0x86,
+            },
+        },
+    }
+}
+
+pub fn do_rx(
+    image: &mut [u8],
+    log: &mut [u8],
+    used: usize,
+    rx_boost: bool,
+    rx_code: u8,
+    n: u16,
+) -> Answer
+    ensures { λ r. ⌜ Meets (doRx «rx_boost» «rx_code» n (now (image .entry)) (now (log .entry)) used) (tellsDone r) (usedDone r) (now (image .exit)) [] (now (log .exit)) [] ⌝ }
+{
+    let reception = received(rx_mode(rx_code, n));
+    let asked = reception.asked;
+    let symbol_num = reception.symbol_num;
+    let mode = reception.mode;
+    match admit(image, log, used, asked, 8) {
+        Verdict::Refused(e) => Answer::Refused(e, used),
+        Verdict::Clear => Answer::Done(write_rx(image, log, used, rx_boost, symbol_num, mode)),
+    }
+}

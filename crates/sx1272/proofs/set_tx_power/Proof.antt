@@ -1,0 +1,48 @@
+-- `sx1272::set_tx_power` meets its contract: two writes of what the clamped power gives.
+-- Assumes nothing.
+use borrow.Author.Needs.{needs}
+use mathlib.Core.Path.{_≡_, _∙_}
+use mir.Syntax.{w32}
+use mir.Val.{toZ, ofZ}
+use mir.ValLaws.{toZ-ofZ}
+use Rattle.sheets.specs.declared.Variant.the-variants.{Sx1272}
+use Rattle.sheets.specs.Power.{clamped}
+use Rattle.log.proofs.Runs.{then}
+use Rattle.levels.specs.Ranges.{InRange}
+use Rattle.levels.proofs.Whole.{held}
+use Rattle.levels.proofs.Clamped.{in-range, dac-of, config-of}
+use Rattle.sx1272.proofs.set_tx_power.Statement.{statement}
+use Rattle.sx1272.proofs.set_tx_power.Tie as tie
+
+power : (c : tie.After-clamped-power) → let a = c .before .before .before .args in toZ w32 (ofZ w32 (c .clamped-power .result)) ≡ clamped Sx1272 (a .tx-boost) (a .p-out)
+power c =
+    let start = c .before .before .before in
+    held (c .clamped-power .result) (c .clamped-power .ok) ∙ (rw (toZ-ofZ w32 _ (start .fits .p-out)) at (c .clamped-power .ensures))
+
+range : (c : tie.After-clamped-power) → InRange Sx1272 (c .before .before .before .args .tx-boost) (toZ w32 (ofZ w32 (c .clamped-power .result)))
+range c = let a = c .before .before .before .args in in-range Sx1272 (a .tx-boost) (a .p-out) (power c)
+
+returns : tie.Need-returns
+returns c =
+    let second = c .before .before .before .before in
+    let first = second .before .before .before .before .before .before .before in
+    let dac = first .before .before .before in
+    let config = dac .before in
+    let a = config .before .before .before .before .args in
+    let e = power (config .before) in
+    let k = config .pa-config .ensures ∙ config-of Sx1272 (a .tx-boost) (a .p-out) e in
+    let d = dac .pa-dac .ensures Sx1272 (range (config .before)) ∙ dac-of Sx1272 (a .tx-boost) (a .p-out) e in
+    then (rw k at (first .write-register .ensures)) (rw d at (second .write-register2 .ensures))
+
+pub set-tx-power-spec : {M : Type 1} → statement M
+set-tx-power-spec =
+    tie.close
+    (tie.spec
+    (λ c κs. search needs)
+    (λ c κs. range c)
+    (λ c κs. search needs)
+    (λ c κs. search needs)
+    (λ c κs. search needs)
+    (λ c. search needs)
+    (λ c. search needs)
+    returns)
