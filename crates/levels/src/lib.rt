@@ -2,9 +2,7 @@
 ghost use mathlib.Core.Path.{_≡_};
 ghost use lib.IntN.{pos, _+ℤ_};
 ghost use lib.Signed.{_≤ℤ_};
-ghost use Rattle.sheets.specs.declared.Variant.{Variant};
-ghost use Rattle.sheets.specs.Power.{paDac};
-ghost use Rattle.levels.specs.Ranges.{bounded, level, InRange};
+ghost use Rattle.levels.specs.Ranges.{bounded, level, dacBy};
 
 const PA_DAC_20DBM_ON: u8 = 0x87;
 
@@ -31,9 +29,9 @@ pub fn level(p: i32, least: i32, most: i32) -> u8
     (txp - least) as u8
 }
 
-// RegPaDac, at a power in the range of its output.
+// RegPaDac, which is the same on both variants.
 pub fn pa_dac(txp: i32, tx_boost: bool) -> u8
-    ensures { λ r. ⌜ ((v : Variant) → InRange v «tx_boost» txp → r ≡ paDac v «tx_boost» txp) ⌝ }
+    ensures { λ r. ⌜ r ≡ dacBy «tx_boost» txp ⌝ }
 {
     if tx_boost {
         match txp {

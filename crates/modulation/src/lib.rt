@@ -3,49 +3,18 @@ ghost use mathlib.Core.Path.{_≡_};
 ghost use mathlib.Core.List.{[]};
 ghost use Prim.Native.Nat.{_+_, _*_, _≤_, _<_};
 ghost use lib.ListN.{length};
-ghost use Rattle.sheets.specs.Modem.{bandwidthCode, detectionOptimize, detectionThreshold};
+ghost use Rattle.sheets.specs.Modem.{bandwidthCode};
 ghost use Rattle.params.specs.Answers.{tellsDone, usedDone};
 ghost use Rattle.log.specs.Steps.{Done};
 ghost use Rattle.admit.specs.Call.{Meets};
-ghost use Rattle.operations.specs.Modem.{detection, modem, modulationRefusal, modulationSteps, setModulation};
+ghost use Rattle.operations.specs.Modem.{modem, modulationRefusal, modulationSteps, setModulation};
 ghost use Rattle.operations.proofs.Counts.{modemRecords, modulationRecords};
 use admit::admit;
-use bus::modify_register;
-use bus::write_register;
+use detection::write_detection;
 use params::answers::Answer;
 use params::mod_params::ModulationParams;
 use params::mod_params::Verdict;
-use registers::radio_kind_params::Register;
 use sheets::Variant;
-
-// RegDetectionOptimize: spreading factor 6 wants its own value, and so does the threshold.
-fn detection_optimize(spreading_factor: u8) -> u8
-    ensures { λ r. ⌜ r ≡ detectionOptimize «spreading_factor» ⌝ }
-{
-    match spreading_factor {
-        6 => 0x05,
-        _ => 0x03,
-    }
-}
-
-fn detection_threshold(spreading_factor: u8) -> u8
-    ensures { λ r. ⌜ r ≡ detectionThreshold «spreading_factor» ⌝ }
-{
-    match spreading_factor {
-        6 => 0x0c,
-        _ => 0x0a,
-    }
-}
-
-fn write_detection(image: &mut [u8], log: &mut [u8], at: usize, spreading_factor: u8) -> usize
-    requires { ⌜ (at + 9 ≤ length (now log)) × (length (now image) ≡ 128) ⌝ }
-    ensures { λ r. ⌜ Done (detection «spreading_factor») (now (image .entry)) (now (log .entry)) at r (now (image .exit)) (now (log .exit)) ⌝ }
-{
-    let opt = detection_optimize(spreading_factor);
-    let thr = detection_threshold(spreading_factor);
-    let at = modify_register(image, log, at, Register::RegDetectionOptimize, 0x78, opt);
-    write_register(image, log, at, Register::RegDetectionThreshold, thr)
-}
 
 // Each variant has its own modem registers.
 fn write_modem(

@@ -1,2 +1,1 @@
-pub mod FifoCalls
 pub mod Fetched

@@ -1,21 +1,21 @@
 // The driver: every operation of the SX1272 and the SX1276 under one name, as the Rust's mod.rs has them.
+pub use bases::set_tx_rx_buffer_base_address;
 pub use carrier::set_tx_continuous_wave_mode;
 pub use channel::set_channel;
+pub use detect::do_cad;
+pub use event::process_irq_event;
 pub use framing::set_packet_params;
-pub use irq::process_irq_event;
 pub use irq::set_irq_params;
 pub use modes::do_tx;
 pub use modes::reset;
 pub use modes::set_sleep;
 pub use modes::set_standby;
 pub use modulation::set_modulation_params;
-pub use packets::get_rx_packet_status;
 pub use packets::get_rx_payload;
-pub use packets::set_payload;
 pub use parameters::create_modulation_params;
 pub use parameters::create_packet_params;
+pub use payload::set_payload;
 pub use power::set_tx_power_and_ramp_time;
-pub use receive::do_cad;
 pub use receive::do_rx;
 pub use setup::init_lora;
-pub use setup::set_tx_rx_buffer_base_address;
+pub use status::get_rx_packet_status;

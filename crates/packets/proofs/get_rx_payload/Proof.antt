@@ -7,7 +7,7 @@ use denote.Ref.{now}
 use lib.ListN.{length}
 use Rattle.operations.specs.Packets.{received, startOf}
 use Rattle.operations.proofs.Counts.{fetching-count}
-use Rattle.packets.proofs.FifoCalls.{fetch-op, refused, room-for, goes-on}
+use Rattle.operations.proofs.FifoCalls.{fetch-op, refused, room-for, goes-on}
 use Rattle.packets.proofs.get_rx_payload.Statement.{statement}
 use Rattle.packets.proofs.get_rx_payload.Tie as tie
 

@@ -10,6 +10,7 @@ use Rattle.sheets.specs.Power.{clamped}
 use Rattle.log.proofs.Runs.{then}
 use Rattle.levels.specs.Ranges.{InRange}
 use Rattle.levels.proofs.Whole.{held}
+use Rattle.levels.proofs.Dac.{dac-in-range}
 use Rattle.levels.proofs.Clamped.{in-range, dac-of, config-of}
 use Rattle.sx1272.proofs.set_tx_power.Statement.{statement}
 use Rattle.sx1272.proofs.set_tx_power.Tie as tie
@@ -31,7 +32,7 @@ returns c =
     let a = config .before .before .before .before .args in
     let e = power (config .before) in
     let k = config .pa-config .ensures ∙ config-of Sx1272 (a .tx-boost) (a .p-out) e in
-    let d = dac .pa-dac .ensures Sx1272 (range (config .before)) ∙ dac-of Sx1272 (a .tx-boost) (a .p-out) e in
+    let d = dac .pa-dac .ensures ∙ dac-in-range Sx1272 _ _ (range (config .before)) ∙ dac-of Sx1272 (a .tx-boost) (a .p-out) e in
     then (rw k at (first .write-register .ensures)) (rw d at (second .write-register2 .ensures))
 
 pub set-tx-power-spec : {M : Type 1} → statement M

@@ -10,6 +10,7 @@ use Rattle.sheets.specs.Power.{clamped}
 use Rattle.log.proofs.Runs.{then}
 use Rattle.levels.specs.Ranges.{InRange}
 use Rattle.levels.proofs.Whole.{held}
+use Rattle.levels.proofs.Dac.{dac-in-range}
 use Rattle.levels.proofs.Clamped.{in-range, dac-of, ocp-of, config-of}
 use Rattle.sx1276.proofs.set_tx_power.Statement.{statement}
 use Rattle.sx1276.proofs.set_tx_power.Tie as tie
@@ -32,7 +33,7 @@ returns c =
     let dac = trim .before in
     let a = dac .before .before .before .before .args in
     let e = power (dac .before) in
-    let d = dac .pa-dac .ensures Sx1276 (range (dac .before)) ∙ dac-of Sx1276 (a .tx-boost) (a .p-out) e in
+    let d = dac .pa-dac .ensures ∙ dac-in-range Sx1276 _ _ (range (dac .before)) ∙ dac-of Sx1276 (a .tx-boost) (a .p-out) e in
     let t = trim .ocp .ensures ∙ ocp-of (a .tx-boost) (a .p-out) e in
     let k = config .pa-config .ensures ∙ config-of Sx1276 (a .tx-boost) (a .p-out) e in
     then (rw d at (first .write-register .ensures)) (then (rw t at (second .write-register2 .ensures)) (rw k at (third .write-register3 .ensures)))

@@ -1,0 +1,68 @@
+-- `event::process_irq_event` meets its contract: the verdict decides, a clear one gives the room that the steps ask, and the flags read tell the rest.
+-- Assumes nothing.
+use borrow.Author.Needs.{needs}
+use mathlib.Core.Path.{_≡_, sym}
+use Prim.Native.Nat.{_+_, _*_}
+use native.Mathlib.Omega.{arith}
+use denote.Ref.{now}
+use Rattle.params.specs.Errors.{or}
+use Rattle.mode_codes.specs.Modes.{modeOf}
+use Rattle.refusals.specs.Refusals.{flag}
+use Rattle.admit.proofs.Calls.{Room, room-for, refused, done}
+use Rattle.operations.specs.Interrupts.{eventRefusal}
+use Rattle.operations.proofs.Counts.{lookingRecords, looking-count}
+use Rattle.operations.proofs.Operations.{event-op}
+use Rattle.event.proofs.process_irq_event.Statement.{statement}
+use Rattle.event.proofs.process_irq_event.Tie as tie
+
+-- what the arguments are refused by
+same : (c : tie.After-event-records) → let a = c .before .before .before .before .before .before .before .args in c .before .or .result ≡ or (flag (a .clear)) (eventRefusal (modeOf (a .mode) (a .rx-mode)))
+same c = rw (c .before .or .ensures, c .before .before .before .flag .ensures, c .before .before .event-refusal .ensures, c .before .before .before .before .radio-mode .ensures)
+
+-- a clear verdict gives room for the records
+room : (c : tie.After-enum-told) → let a = c .before .before .before .before .before .before .before .before .before .before .before .before .args in Room (or (flag (a .clear)) (eventRefusal (modeOf (a .mode) (a .rx-mode)))) (a .used + 3 * lookingRecords (a .clear)) (now (a .image)) (now (a .log))
+room told =
+    let verdict = told .before .before in
+    let rec = verdict .before .before .before in
+    let a = rec .before .before .before .before .before .before .before .args in
+    room-for (event-op (modeOf (a .mode) (a .rx-mode)) (a .clear) (now (a .image))) (now (a .image)) (now (a .log)) (a .used) (same rec) (rec .event-records .ensures .0) (verdict .admit .ensures) (told .enum-told .given .1)
+
+read-flags-requires : tie.Need-read-flags-requires
+read-flags-requires c κs = let r = room (c .before .before) in (r .room, r .whole)
+
+add-irq-answer : tie.Need-add-irq-answer
+add-irq-answer c =
+    let told = c .before .before .before .before .before .before .before .before in
+    let rec = told .before .before .before .before .before in
+    omega (arith, room told .room, rec .event-records .ensures .0, rec .before .before .before .before .before .before .before .good)
+
+returns : tie.Need-returns
+returns c =
+    let told = c .before in
+    let verdict = told .before .before in
+    let rec = verdict .before .before .before in
+    let a = rec .before .before .before .before .before .before .before .args in
+    refused (event-op (modeOf (a .mode) (a .rx-mode)) (a .clear) (now (a .image))) (now (a .image)) (now (a .log)) (a .used) (same rec) (rec .event-records .ensures .0) (verdict .admit .ensures) (told .e .given .1)
+
+returns-2 : tie.Need-returns-2
+returns-2 c =
+    let read = c .before .before .before .before .before .before in
+    let told = read .before .before .before in
+    let verdict = told .before .before in
+    let rec = verdict .before .before .before in
+    let a = rec .before .before .before .before .before .before .before .args in
+    let flags = read .read-flags .ensures in
+    let mode = c .before .mode-or-sleep .ensures in
+    let code = rec .before .before .before .before .radio-mode .ensures in
+    let answer = rw (mode, code, flags .0) at (c .irq-answer .ensures) in
+    rw (answer .0, answer .1)
+    (done (event-op (modeOf (a .mode) (a .rx-mode)) (a .clear) (now (a .image))) (now (a .image)) (now (a .log)) (a .used) (same rec) (rec .event-records .ensures .0) (verdict .admit .ensures) (told .enum-told .given .1)
+    (record { ends = rw (rec .event-records .ensures .0) (sym (looking-count (a .clear) (now (a .image)) (a .used))); logged = flags .1 .logged; stored = flags .1 .stored }))
+
+pub process-irq-event-spec : {M : Type 1} → statement M
+process-irq-event-spec =
+    tie.close
+    (tie.spec (λ c κs. search needs) (λ c κs. search needs) (λ c κs. search needs) (λ c κs. search needs) (λ c κs. search needs)
+    (λ c κs. search needs) (λ c. search needs) (λ c. search needs) read-flags-requires (λ c κs. search needs) (λ c. search needs)
+    add-irq-answer (λ c κs. search needs) (λ c. search needs) (λ c. search needs) returns (λ c. search needs) (λ c. search needs)
+    returns-2)
