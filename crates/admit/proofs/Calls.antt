@@ -75,23 +75,24 @@ pub record Operation : Type 0 where
   pub makes : Makes steps records
   pub quiet : Quiet steps
 
--- v is what `admit` decided, given a refusal and a count of records that are the operation's
-module _ (o : Operation) (im log : List ℕ) (used : ℕ) {v asked : Verdict} {n : ℕ} (same : asked ≡ o .asked) (count : n ≡ o .records)
-    (decided : v ≡ admitted asked (used + 3 * n) im log used) where
-  by-verdict : (w : Verdict) → v ≡ w → admitted (o .asked) (endAfter (o .steps) im used) im log used ≡ w
-  by-verdict w e = rw (o .makes im used, ← same, ← count) (sym decided ∙ e)
-
+-- What follows from `admit`'s verdict v: the outcome of a refusal, the room of a call that goes on, and its outcome once its steps are done.
+pub record Decided (o : Operation) (im log : List ℕ) (used : ℕ) (v : Verdict) : Type 0 where
   pub refused : {e : RadioError} → v ≡ Refused e → Meets (call (o .asked) (o .tells) (o .steps) im log used) (refusal e) used im [] log []
-  refused {e} g = rw (by-verdict (Refused e) g) (record { answers = refl; ends = refl; leaves = refl; holds = refl; logs = refl; fills = refl })
-
-  pub room-for : v ≡ Clear → Room (o .asked) (used + 3 * o .records) im log
-  room-for g = admitted→room (o .asked) (used + 3 * o .records) im log used (rw (o .makes im used) at (by-verdict Clear g))
-
+  pub room : v ≡ Clear → Room (o .asked) (used + 3 * o .records) im log
   pub done : {r : ℕ} {im′ log′ : List ℕ} → v ≡ Clear → Done (o .steps) im log used r im′ log′
       → Meets (call (o .asked) (o .tells) (o .steps) im log used) (o .tells) r im′ [] log′ []
-  done g d =
-      rw (by-verdict Clear g)
-      (record { answers = refl; ends = d .ends; leaves = d .stored; holds = sym (no-fifo (o .steps) im); logs = d .logged; fills = sym (o .quiet im) })
+
+-- v is what `admit` decided, given a refusal and a count of records that are the operation's
+pub decided : (o : Operation) (im log : List ℕ) (used : ℕ) {v asked : Verdict} {n : ℕ} → asked ≡ o .asked → n ≡ o .records
+    → v ≡ admitted asked (used + 3 * n) im log used → Decided o im log used v
+decided o im log used {v} same count is = record {
+  refused = λ {e} g. rw (by-verdict (Refused e) g) (record { answers = refl; ends = refl; leaves = refl; holds = refl; logs = refl; fills = refl });
+  room = λ g. admitted→room (o .asked) (used + 3 * o .records) im log used (rw (o .makes im used) at (by-verdict Clear g));
+  done = λ g d. rw (by-verdict Clear g) (record { answers = refl; ends = d .ends; leaves = d .stored; holds = sym (no-fifo (o .steps) im); logs = d .logged; fills = sym (o .quiet im) });
+}
+  where
+    by-verdict : (w : Verdict) → v ≡ w → admitted (o .asked) (endAfter (o .steps) im used) im log used ≡ w
+    by-verdict w e = rw (o .makes im used, ← same, ← count) (sym is ∙ e)
 
 -- ---- one result
 

@@ -1,18 +1,17 @@
 -- Laws of calls that are lent a FIFO: their outcome by what `admit_fifo` decided.
 -- Assumes nothing.
 use mathlib.Core.Path.{_≡_, refl, sym, _∙_}
-use mathlib.Core.Bool.{Bool, true, false}
 use mathlib.Core.List.{List}
 use Prim.Native.Nat.{ℕ, _+_, _*_, _≤_}
-use native.Mathlib.Omega.{arith}
-use lib.Dec.{T, leb, leb→le}
+use lib.Dec.{leb, leb→le}
 use lib.ListN.{length}
 use Rattle.params.specs.declared.mod_params.RadioError.{RadioError}
 use Rattle.params.specs.declared.mod_params.RadioError.the-variants.{PayloadSizeUnexpected}
 use Rattle.params.specs.declared.mod_params.Verdict.{Verdict}
 use Rattle.params.specs.declared.mod_params.Verdict.the-variants.{Clear, Refused}
 use Rattle.params.specs.Errors.{Told, refusal}
-use Rattle.refusals.specs.Refusals.{unless, payloadLength}
+use Rattle.refusals.specs.Refusals.{payloadLength}
+use Rattle.refusals.proofs.Clear.{passes}
 use Rattle.log.specs.Steps.{Step}
 use Rattle.admit.specs.Call.{Meets, admittedFifo, settled, well}
 use Rattle.admit.proofs.Calls.{Room, admittedFifo→room}
@@ -39,11 +38,7 @@ fetch-op im n = record {
 
 -- a payload that 12 does not refuse
 pub short : (n : ℕ) → payloadLength n ≡ Clear → n ≤ 255
-short n p = leb→le n 255 (passes (leb n 255) p)
-  where
-    passes : (b : Bool) → unless b (PayloadSizeUnexpected n) ≡ Clear → T b
-    passes true p = tt
-    passes false p = let z : _≡_ {A = ℕ} 0 1 = cc in omega arith
+short n p = leb→le n 255 (passes (leb n 255) (PayloadSizeUnexpected n) p)
 
 -- v is what `admit_fifo` decided, given a refusal that is the operation's and its count of records, which leads to the log's end
 module _ (o : FifoOperation) (im fifo log buffer : List ℕ) (used : ℕ) {v asked : Verdict} {end : ℕ} (same : asked ≡ o .asked)

@@ -4,33 +4,33 @@ use borrow.Author.Needs.{needs}
 use mathlib.Core.Path.{refl}
 use native.Mathlib.Omega.{arith}
 use denote.Ref.{now}
-use Rattle.admit.proofs.Calls.{room-for, refused, done}
+use Rattle.admit.proofs.Calls.{Decided, decided}
 use Rattle.operations.proofs.Operations.{bases-op}
 use Rattle.bases.proofs.set_tx_rx_buffer_base_address.Statement.{statement}
 use Rattle.bases.proofs.set_tx_rx_buffer_base_address.Tie as tie
+
+decision : (c : tie.After-admit) → let a = c .before .before .before .before .before .before .args in Decided (bases-op (a .tx-base-addr) (a .rx-base-addr)) (now (a .image)) (now (a .log)) (a .used) (c .admit .result)
+decision c = let a = c .before .before .before .before .before .before .args in decided (bases-op (a .tx-base-addr) (a .rx-base-addr)) (now (a .image)) (now (a .log)) (a .used) (c .before .before .before .base-addresses .ensures) refl (c .admit .ensures)
 
 write-bases-requires : tie.Need-write-bases-requires
 write-bases-requires c κs =
     let told = c .before .before in
     let verdict = told .before .before in
-    let a = verdict .before .before .before .before .before .before .args in
-    let room = room-for (bases-op (a .tx-base-addr) (a .rx-base-addr)) (now (a .image)) (now (a .log)) (a .used) (verdict .before .before .before .base-addresses .ensures) refl (verdict .admit .ensures) (told .enum-told .given .1) in
+    let room = decision verdict .room (told .enum-told .given .1) in
     (omega arith, room .whole)
 
 returns : tie.Need-returns
 returns c =
     let e = c .before in
     let verdict = e .before .before in
-    let a = verdict .before .before .before .before .before .before .args in
-    refused (bases-op (a .tx-base-addr) (a .rx-base-addr)) (now (a .image)) (now (a .log)) (a .used) (verdict .before .before .before .base-addresses .ensures) refl (verdict .admit .ensures) (e .e .given .1)
+    decision verdict .refused (e .e .given .1)
 
 returns-2 : tie.Need-returns-2
 returns-2 c =
     let w = c .before .before .before .before in
     let told = w .before .before .before in
     let verdict = told .before .before in
-    let a = verdict .before .before .before .before .before .before .args in
-    done (bases-op (a .tx-base-addr) (a .rx-base-addr)) (now (a .image)) (now (a .log)) (a .used) (verdict .before .before .before .base-addresses .ensures) refl (verdict .admit .ensures) (told .enum-told .given .1) (w .write-bases .ensures)
+    decision verdict .done (told .enum-told .given .1) (w .write-bases .ensures)
 
 pub set-tx-rx-buffer-base-address-spec : {M : Type 1} → statement M
 set-tx-rx-buffer-base-address-spec =

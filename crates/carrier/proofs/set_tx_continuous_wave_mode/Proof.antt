@@ -4,33 +4,33 @@ use borrow.Author.Needs.{needs}
 use mathlib.Core.Path.{refl}
 use native.Mathlib.Omega.{arith}
 use denote.Ref.{now}
-use Rattle.admit.proofs.Calls.{room-for, refused, done}
+use Rattle.admit.proofs.Calls.{Decided, decided}
 use Rattle.operations.proofs.Operations.{carrier-op}
 use Rattle.carrier.proofs.set_tx_continuous_wave_mode.Statement.{statement}
 use Rattle.carrier.proofs.set_tx_continuous_wave_mode.Tie as tie
+
+decision : (c : tie.After-admit) → let a = c .before .before .before .before .before .before .args in Decided (carrier-op (a .variant)) (now (a .image)) (now (a .log)) (a .used) (c .admit .result)
+decision c = let a = c .before .before .before .before .before .before .args in decided (carrier-op (a .variant)) (now (a .image)) (now (a .log)) (a .used) (c .before .before .before .carrier .ensures) refl (c .admit .ensures)
 
 set-tx-continuous-wave-mode-requires : tie.Need-set-tx-continuous-wave-mode-requires
 set-tx-continuous-wave-mode-requires c κs =
     let told = c .before .before in
     let verdict = told .before .before in
-    let a = verdict .before .before .before .before .before .before .args in
-    let room = room-for (carrier-op (a .variant)) (now (a .image)) (now (a .log)) (a .used) (verdict .before .before .before .carrier .ensures) refl (verdict .admit .ensures) (told .enum-told .given .1) in
+    let room = decision verdict .room (told .enum-told .given .1) in
     (omega arith, room .whole)
 
 returns : tie.Need-returns
 returns c =
     let e = c .before in
     let verdict = e .before .before in
-    let a = verdict .before .before .before .before .before .before .args in
-    refused (carrier-op (a .variant)) (now (a .image)) (now (a .log)) (a .used) (verdict .before .before .before .carrier .ensures) refl (verdict .admit .ensures) (e .e .given .1)
+    decision verdict .refused (e .e .given .1)
 
 returns-2 : tie.Need-returns-2
 returns-2 c =
     let w = c .before .before .before .before in
     let told = w .before .before .before in
     let verdict = told .before .before in
-    let a = verdict .before .before .before .before .before .before .args in
-    done (carrier-op (a .variant)) (now (a .image)) (now (a .log)) (a .used) (verdict .before .before .before .carrier .ensures) refl (verdict .admit .ensures) (told .enum-told .given .1) (w .set-tx-continuous-wave-mode .ensures)
+    decision verdict .done (told .enum-told .given .1) (w .set-tx-continuous-wave-mode .ensures)
 
 pub set-tx-continuous-wave-mode-spec : {M : Type 1} → statement M
 set-tx-continuous-wave-mode-spec =

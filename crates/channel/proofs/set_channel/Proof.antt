@@ -4,33 +4,33 @@ use borrow.Author.Needs.{needs}
 use mathlib.Core.Path.{refl}
 use native.Mathlib.Omega.{arith}
 use denote.Ref.{now}
-use Rattle.admit.proofs.Calls.{room-for, refused, done}
+use Rattle.admit.proofs.Calls.{Decided, decided}
 use Rattle.operations.proofs.Operations.{channel-op}
 use Rattle.channel.proofs.set_channel.Statement.{statement}
 use Rattle.channel.proofs.set_channel.Tie as tie
+
+decision : (c : tie.After-admit) → let a = c .before .before .before .before .before .args in Decided (channel-op (a .frequency-in-hz)) (now (a .image)) (now (a .log)) (a .used) (c .admit .result)
+decision c = let a = c .before .before .before .before .before .args in decided (channel-op (a .frequency-in-hz)) (now (a .image)) (now (a .log)) (a .used) refl refl (c .admit .ensures)
 
 write-channel-requires : tie.Need-write-channel-requires
 write-channel-requires c κs =
     let told = c .before .before in
     let verdict = told .before .before in
-    let a = verdict .before .before .before .before .before .args in
-    let room = room-for (channel-op (a .frequency-in-hz)) (now (a .image)) (now (a .log)) (a .used) refl refl (verdict .admit .ensures) (told .enum-told .given .1) in
+    let room = decision verdict .room (told .enum-told .given .1) in
     (omega arith, room .whole)
 
 returns : tie.Need-returns
 returns c =
     let e = c .before in
     let verdict = e .before .before in
-    let a = verdict .before .before .before .before .before .args in
-    refused (channel-op (a .frequency-in-hz)) (now (a .image)) (now (a .log)) (a .used) refl refl (verdict .admit .ensures) (e .e .given .1)
+    decision verdict .refused (e .e .given .1)
 
 returns-2 : tie.Need-returns-2
 returns-2 c =
     let w = c .before .before .before .before in
     let told = w .before .before .before in
     let verdict = told .before .before in
-    let a = verdict .before .before .before .before .before .args in
-    done (channel-op (a .frequency-in-hz)) (now (a .image)) (now (a .log)) (a .used) refl refl (verdict .admit .ensures) (told .enum-told .given .1) (w .write-channel .ensures)
+    decision verdict .done (told .enum-told .given .1) (w .write-channel .ensures)
 
 pub set-channel-spec : {M : Type 1} → statement M
 set-channel-spec =

@@ -4,33 +4,33 @@ use borrow.Author.Needs.{needs}
 use mathlib.Core.Path.{refl}
 use native.Mathlib.Omega.{arith}
 use denote.Ref.{now}
-use Rattle.admit.proofs.Calls.{room-for, refused, done}
+use Rattle.admit.proofs.Calls.{Decided, decided}
 use Rattle.operations.proofs.Operations.{cad-op}
 use Rattle.detect.proofs.do_cad.Statement.{statement}
 use Rattle.detect.proofs.do_cad.Tie as tie
+
+decision : (c : tie.After-admit) → let a = c .before .before .before .before .before .args in Decided (cad-op (a .rx-boost)) (now (a .image)) (now (a .log)) (a .used) (c .admit .result)
+decision c = let a = c .before .before .before .before .before .args in decided (cad-op (a .rx-boost)) (now (a .image)) (now (a .log)) (a .used) refl refl (c .admit .ensures)
 
 write-cad-requires : tie.Need-write-cad-requires
 write-cad-requires c κs =
     let told = c .before .before in
     let verdict = told .before .before in
-    let a = verdict .before .before .before .before .before .args in
-    let room = room-for (cad-op (a .rx-boost)) (now (a .image)) (now (a .log)) (a .used) refl refl (verdict .admit .ensures) (told .enum-told .given .1) in
+    let room = decision verdict .room (told .enum-told .given .1) in
     (omega arith, room .whole)
 
 returns : tie.Need-returns
 returns c =
     let e = c .before in
     let verdict = e .before .before in
-    let a = verdict .before .before .before .before .before .args in
-    refused (cad-op (a .rx-boost)) (now (a .image)) (now (a .log)) (a .used) refl refl (verdict .admit .ensures) (e .e .given .1)
+    decision verdict .refused (e .e .given .1)
 
 returns-2 : tie.Need-returns-2
 returns-2 c =
     let w = c .before .before .before .before in
     let told = w .before .before .before in
     let verdict = told .before .before in
-    let a = verdict .before .before .before .before .before .args in
-    done (cad-op (a .rx-boost)) (now (a .image)) (now (a .log)) (a .used) refl refl (verdict .admit .ensures) (told .enum-told .given .1) (w .write-cad .ensures)
+    decision verdict .done (told .enum-told .given .1) (w .write-cad .ensures)
 
 pub do-cad-spec : {M : Type 1} → statement M
 do-cad-spec =

@@ -2,15 +2,14 @@
 -- Assumes nothing.
 use borrow.Author.Needs.{needs}
 use mathlib.Core.Path.{_≡_, sym}
-use Prim.Native.Nat.{_+_, _*_}
 use native.Mathlib.Omega.{arith}
 use denote.Ref.{now}
 use Rattle.params.specs.Errors.{or}
 use Rattle.mode_codes.specs.Modes.{modeOf}
 use Rattle.refusals.specs.Refusals.{flag}
-use Rattle.admit.proofs.Calls.{Room, room-for, refused, done}
+use Rattle.admit.proofs.Calls.{Decided, decided}
 use Rattle.operations.specs.Interrupts.{eventRefusal}
-use Rattle.operations.proofs.Counts.{lookingRecords, looking-count}
+use Rattle.operations.proofs.Counts.{looking-count}
 use Rattle.operations.proofs.Operations.{event-op}
 use Rattle.event.proofs.process_irq_event.Statement.{statement}
 use Rattle.event.proofs.process_irq_event.Tie as tie
@@ -19,30 +18,29 @@ use Rattle.event.proofs.process_irq_event.Tie as tie
 same : (c : tie.After-event-records) → let a = c .before .before .before .before .before .before .before .args in c .before .or .result ≡ or (flag (a .clear)) (eventRefusal (modeOf (a .mode) (a .rx-mode)))
 same c = rw (c .before .or .ensures, c .before .before .before .flag .ensures, c .before .before .event-refusal .ensures, c .before .before .before .before .radio-mode .ensures)
 
--- a clear verdict gives room for the records
-room : (c : tie.After-enum-told) → let a = c .before .before .before .before .before .before .before .before .before .before .before .before .args in Room (or (flag (a .clear)) (eventRefusal (modeOf (a .mode) (a .rx-mode)))) (a .used + 3 * lookingRecords (a .clear)) (now (a .image)) (now (a .log))
-room told =
-    let verdict = told .before .before in
-    let rec = verdict .before .before .before in
+decision : (c : tie.After-admit)
+    → let a = c .before .before .before .before .before .before .before .before .before .before .args in
+    Decided (event-op (modeOf (a .mode) (a .rx-mode)) (a .clear) (now (a .image))) (now (a .image)) (now (a .log)) (a .used) (c .admit .result)
+decision c =
+    let rec = c .before .before .before in
     let a = rec .before .before .before .before .before .before .before .args in
-    room-for (event-op (modeOf (a .mode) (a .rx-mode)) (a .clear) (now (a .image))) (now (a .image)) (now (a .log)) (a .used) (same rec) (rec .event-records .ensures .0) (verdict .admit .ensures) (told .enum-told .given .1)
+    decided (event-op (modeOf (a .mode) (a .rx-mode)) (a .clear) (now (a .image))) (now (a .image)) (now (a .log)) (a .used) (same rec) (rec .event-records .ensures .0) (c .admit .ensures)
 
 read-flags-requires : tie.Need-read-flags-requires
-read-flags-requires c κs = let r = room (c .before .before) in (r .room, r .whole)
+read-flags-requires c κs =
+    let told = c .before .before in
+    let r = decision (told .before .before) .room (told .enum-told .given .1) in
+    (r .room, r .whole)
 
 add-irq-answer : tie.Need-add-irq-answer
 add-irq-answer c =
     let told = c .before .before .before .before .before .before .before .before in
-    let rec = told .before .before .before .before .before in
-    omega (arith, room told .room, rec .event-records .ensures .0, rec .before .before .before .before .before .before .before .good)
-
-returns : tie.Need-returns
-returns c =
-    let told = c .before in
     let verdict = told .before .before in
     let rec = verdict .before .before .before in
-    let a = rec .before .before .before .before .before .before .before .args in
-    refused (event-op (modeOf (a .mode) (a .rx-mode)) (a .clear) (now (a .image))) (now (a .image)) (now (a .log)) (a .used) (same rec) (rec .event-records .ensures .0) (verdict .admit .ensures) (told .e .given .1)
+    omega (arith, decision verdict .room (told .enum-told .given .1) .room, rec .event-records .ensures .0, rec .before .before .before .before .before .before .before .good)
+
+returns : tie.Need-returns
+returns c = decision (c .before .before .before) .refused (c .before .e .given .1)
 
 returns-2 : tie.Need-returns-2
 returns-2 c =
@@ -56,7 +54,7 @@ returns-2 c =
     let code = rec .before .before .before .before .radio-mode .ensures in
     let answer = rw (mode, code, flags .0) at (c .irq-answer .ensures) in
     rw (answer .0, answer .1)
-    (done (event-op (modeOf (a .mode) (a .rx-mode)) (a .clear) (now (a .image))) (now (a .image)) (now (a .log)) (a .used) (same rec) (rec .event-records .ensures .0) (verdict .admit .ensures) (told .enum-told .given .1)
+    (decision verdict .done (told .enum-told .given .1)
     (record { ends = rw (rec .event-records .ensures .0) (sym (looking-count (a .clear) (now (a .image)) (a .used))); logged = flags .1 .logged; stored = flags .1 .stored }))
 
 pub process-irq-event-spec : {M : Type 1} → statement M

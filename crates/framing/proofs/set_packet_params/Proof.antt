@@ -4,33 +4,33 @@ use borrow.Author.Needs.{needs}
 use mathlib.Core.Path.{refl}
 use native.Mathlib.Omega.{arith}
 use denote.Ref.{now}
-use Rattle.admit.proofs.Calls.{room-for, refused, done}
+use Rattle.admit.proofs.Calls.{Decided, decided}
 use Rattle.operations.proofs.Operations.{packet-op}
 use Rattle.framing.proofs.set_packet_params.Statement.{statement}
 use Rattle.framing.proofs.set_packet_params.Tie as tie
+
+decision : (c : tie.After-admit) → let a = c .before .before .before .before .before .before .before .args in Decided (packet-op (a .variant) (a .pkt-params)) (now (a .image)) (now (a .log)) (a .used) (c .admit .result)
+decision c = let a = c .before .before .before .before .before .before .before .args in decided (packet-op (a .variant) (a .pkt-params)) (now (a .image)) (now (a .log)) (a .used) (c .before .before .before .before .packet-named .ensures) (c .before .packet-records .ensures .0) (c .admit .ensures)
 
 write-packet-requires : tie.Need-write-packet-requires
 write-packet-requires c κs =
     let told = c .before .before in
     let verdict = told .before .before in
-    let a = verdict .before .before .before .before .before .before .before .args in
-    let room = room-for (packet-op (a .variant) (a .pkt-params)) (now (a .image)) (now (a .log)) (a .used) (verdict .before .before .before .before .packet-named .ensures) (verdict .before .packet-records .ensures .0) (verdict .admit .ensures) (told .enum-told .given .1) in
+    let room = decision verdict .room (told .enum-told .given .1) in
     ((omega arith, room .whole), room .clear)
 
 returns : tie.Need-returns
 returns c =
     let e = c .before in
     let verdict = e .before .before in
-    let a = verdict .before .before .before .before .before .before .before .args in
-    refused (packet-op (a .variant) (a .pkt-params)) (now (a .image)) (now (a .log)) (a .used) (verdict .before .before .before .before .packet-named .ensures) (verdict .before .packet-records .ensures .0) (verdict .admit .ensures) (e .e .given .1)
+    decision verdict .refused (e .e .given .1)
 
 returns-2 : tie.Need-returns-2
 returns-2 c =
     let w = c .before .before .before .before in
     let told = w .before .before .before in
     let verdict = told .before .before in
-    let a = verdict .before .before .before .before .before .before .before .args in
-    done (packet-op (a .variant) (a .pkt-params)) (now (a .image)) (now (a .log)) (a .used) (verdict .before .before .before .before .packet-named .ensures) (verdict .before .packet-records .ensures .0) (verdict .admit .ensures) (told .enum-told .given .1) (w .write-packet .ensures)
+    decision verdict .done (told .enum-told .given .1) (w .write-packet .ensures)
 
 pub set-packet-params-spec : {M : Type 1} → statement M
 set-packet-params-spec =

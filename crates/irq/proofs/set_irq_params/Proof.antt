@@ -5,25 +5,26 @@ use mathlib.Core.Path.{refl}
 use native.Mathlib.Omega.{arith}
 use denote.Ref.{now}
 use Rattle.mode_codes.specs.Modes.{modeOf}
-use Rattle.admit.proofs.Calls.{room-for, refused, done}
+use Rattle.admit.proofs.Calls.{Decided, decided}
 use Rattle.operations.proofs.Operations.{irq-op}
 use Rattle.irq.proofs.set_irq_params.Statement.{statement}
 use Rattle.irq.proofs.set_irq_params.Tie as tie
+
+decision : (c : tie.After-admit) → let a = c .before .before .before .before .before .before .before .args in Decided (irq-op (modeOf (a .mode) (a .rx-mode))) (now (a .image)) (now (a .log)) (a .used) (c .admit .result)
+decision c = let a = c .before .before .before .before .before .before .before .args in decided (irq-op (modeOf (a .mode) (a .rx-mode))) (now (a .image)) (now (a .log)) (a .used) (rw (c .before .before .before .before .radio-mode .ensures) at (c .before .set-refusal .ensures)) refl (c .admit .ensures)
 
 write-irq-params-requires : tie.Need-write-irq-params-requires
 write-irq-params-requires c κs =
     let told = c .before .before .before in
     let verdict = told .before .before in
-    let a = verdict .before .before .before .before .before .before .before .args in
-    let room = room-for (irq-op (modeOf (a .mode) (a .rx-mode))) (now (a .image)) (now (a .log)) (a .used) (rw (verdict .before .before .before .before .radio-mode .ensures) at (verdict .before .set-refusal .ensures)) refl (verdict .admit .ensures) (told .enum-told .given .1) in
+    let room = decision verdict .room (told .enum-told .given .1) in
     (omega arith, room .whole)
 
 returns : tie.Need-returns
 returns c =
     let e = c .before in
     let verdict = e .before .before in
-    let a = verdict .before .before .before .before .before .before .before .args in
-    refused (irq-op (modeOf (a .mode) (a .rx-mode))) (now (a .image)) (now (a .log)) (a .used) (rw (verdict .before .before .before .before .radio-mode .ensures) at (verdict .before .set-refusal .ensures)) refl (verdict .admit .ensures) (e .e .given .1)
+    decision verdict .refused (e .e .given .1)
 
 returns-2 : tie.Need-returns-2
 returns-2 c =
@@ -31,8 +32,7 @@ returns-2 c =
     let mode = w .before .mode-or-sleep .ensures in
     let told = w .before .before .before .before in
     let verdict = told .before .before in
-    let a = verdict .before .before .before .before .before .before .before .args in
-    done (irq-op (modeOf (a .mode) (a .rx-mode))) (now (a .image)) (now (a .log)) (a .used) (rw (verdict .before .before .before .before .radio-mode .ensures) at (verdict .before .set-refusal .ensures)) refl (verdict .admit .ensures) (told .enum-told .given .1) (rw (mode, verdict .before .before .before .before .radio-mode .ensures) at (w .write-irq-params .ensures))
+    decision verdict .done (told .enum-told .given .1) (rw (mode, verdict .before .before .before .before .radio-mode .ensures) at (w .write-irq-params .ensures))
 
 pub set-irq-params-spec : {M : Type 1} → statement M
 set-irq-params-spec =

@@ -4,33 +4,33 @@ use borrow.Author.Needs.{needs}
 use mathlib.Core.Path.{refl}
 use native.Mathlib.Omega.{arith}
 use denote.Ref.{now}
-use Rattle.admit.proofs.Calls.{room-for, refused, done}
+use Rattle.admit.proofs.Calls.{Decided, decided}
 use Rattle.operations.proofs.Operations.{modulation-op}
 use Rattle.modulation.proofs.set_modulation_params.Statement.{statement}
 use Rattle.modulation.proofs.set_modulation_params.Tie as tie
+
+decision : (c : tie.After-admit) → let a = c .before .before .before .before .before .before .before .args in Decided (modulation-op (a .variant) (a .mdltn-params)) (now (a .image)) (now (a .log)) (a .used) (c .admit .result)
+decision c = let a = c .before .before .before .before .before .before .before .args in decided (modulation-op (a .variant) (a .mdltn-params)) (now (a .image)) (now (a .log)) (a .used) (c .before .before .before .before .modulation-refusal .ensures) (c .before .modulation-records .ensures .0) (c .admit .ensures)
 
 write-modulation-requires : tie.Need-write-modulation-requires
 write-modulation-requires c κs =
     let told = c .before .before in
     let verdict = told .before .before in
-    let a = verdict .before .before .before .before .before .before .before .args in
-    let room = room-for (modulation-op (a .variant) (a .mdltn-params)) (now (a .image)) (now (a .log)) (a .used) (verdict .before .before .before .before .modulation-refusal .ensures) (verdict .before .modulation-records .ensures .0) (verdict .admit .ensures) (told .enum-told .given .1) in
+    let room = decision verdict .room (told .enum-told .given .1) in
     ((omega arith, room .whole), room .clear)
 
 returns : tie.Need-returns
 returns c =
     let e = c .before in
     let verdict = e .before .before in
-    let a = verdict .before .before .before .before .before .before .before .args in
-    refused (modulation-op (a .variant) (a .mdltn-params)) (now (a .image)) (now (a .log)) (a .used) (verdict .before .before .before .before .modulation-refusal .ensures) (verdict .before .modulation-records .ensures .0) (verdict .admit .ensures) (e .e .given .1)
+    decision verdict .refused (e .e .given .1)
 
 returns-2 : tie.Need-returns-2
 returns-2 c =
     let w = c .before .before .before .before in
     let told = w .before .before .before in
     let verdict = told .before .before in
-    let a = verdict .before .before .before .before .before .before .before .args in
-    done (modulation-op (a .variant) (a .mdltn-params)) (now (a .image)) (now (a .log)) (a .used) (verdict .before .before .before .before .modulation-refusal .ensures) (verdict .before .modulation-records .ensures .0) (verdict .admit .ensures) (told .enum-told .given .1) (w .write-modulation .ensures)
+    decision verdict .done (told .enum-told .given .1) (w .write-modulation .ensures)
 
 pub set-modulation-params-spec : {M : Type 1} → statement M
 set-modulation-params-spec =

@@ -5,25 +5,26 @@ use native.Mathlib.Omega.{arith}
 use denote.Ref.{now}
 use mir.Syntax.{w32}
 use mir.ValLaws.{toZ-ofZ}
-use Rattle.admit.proofs.Calls.{room-for, refused, done}
+use Rattle.admit.proofs.Calls.{Decided, decided}
 use Rattle.operations.proofs.Operations.{power-op}
 use Rattle.power.proofs.set_tx_power_and_ramp_time.Statement.{statement}
 use Rattle.power.proofs.set_tx_power_and_ramp_time.Tie as tie
+
+decision : (c : tie.After-admit) → let a = c .before .before .before .before .before .before .before .args in Decided (power-op (a .board) (a .p-out) (a .is-tx-prep)) (now (a .image)) (now (a .log)) (a .used) (c .admit .result)
+decision c = let a = c .before .before .before .before .before .before .before .args in decided (power-op (a .board) (a .p-out) (a .is-tx-prep)) (now (a .image)) (now (a .log)) (a .used) (c .before .before .before .before .flag .ensures) (c .before .power-records .ensures .0) (c .admit .ensures)
 
 write-power-requires : tie.Need-write-power-requires
 write-power-requires c κs =
     let told = c .before .before in
     let verdict = told .before .before in
-    let a = verdict .before .before .before .before .before .before .before .args in
-    let room = room-for (power-op (a .board) (a .p-out) (a .is-tx-prep)) (now (a .image)) (now (a .log)) (a .used) (verdict .before .before .before .before .flag .ensures) (verdict .before .power-records .ensures .0) (verdict .admit .ensures) (told .enum-told .given .1) in
+    let room = decision verdict .room (told .enum-told .given .1) in
     (omega arith, room .whole)
 
 returns : tie.Need-returns
 returns c =
     let e = c .before in
     let verdict = e .before .before in
-    let a = verdict .before .before .before .before .before .before .before .args in
-    refused (power-op (a .board) (a .p-out) (a .is-tx-prep)) (now (a .image)) (now (a .log)) (a .used) (verdict .before .before .before .before .flag .ensures) (verdict .before .power-records .ensures .0) (verdict .admit .ensures) (e .e .given .1)
+    decision verdict .refused (e .e .given .1)
 
 returns-2 : tie.Need-returns-2
 returns-2 c =
@@ -31,8 +32,7 @@ returns-2 c =
     let told = w .before .before .before in
     let verdict = told .before .before in
     let start = verdict .before .before .before .before .before .before .before in
-    let a = start .args in
-    done (power-op (a .board) (a .p-out) (a .is-tx-prep)) (now (a .image)) (now (a .log)) (a .used) (verdict .before .before .before .before .flag .ensures) (verdict .before .power-records .ensures .0) (verdict .admit .ensures) (told .enum-told .given .1) (rw (toZ-ofZ w32 _ (start .fits .p-out)) at (w .write-power .ensures))
+    decision verdict .done (told .enum-told .given .1) (rw (toZ-ofZ w32 _ (start .fits .p-out)) at (w .write-power .ensures))
 
 pub set-tx-power-and-ramp-time-spec : {M : Type 1} → statement M
 set-tx-power-and-ramp-time-spec =

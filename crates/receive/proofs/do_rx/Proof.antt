@@ -4,7 +4,7 @@ use borrow.Author.Needs.{needs}
 use mathlib.Core.Path.{_≡_, refl}
 use native.Mathlib.Omega.{arith}
 use denote.Ref.{now}
-use Rattle.admit.proofs.Calls.{room-for, refused, done}
+use Rattle.admit.proofs.Calls.{Decided, decided}
 use Rattle.mode_codes.specs.Modes.{rxModeOf}
 use Rattle.operations.specs.Modes.{rxRefusal, rxWindow, rxOpMode}
 use Rattle.operations.proofs.Operations.{rx-op}
@@ -18,28 +18,28 @@ told-of : (c : tie.After-received)
     × ((c .received .result .«symbol_num» ≡ rxWindow (rxModeOf (a .rx-code) (a .n))) × (c .received .result .mode ≡ rxOpMode (rxModeOf (a .rx-code) (a .n))))
 told-of c = rw (c .before .rx-mode .ensures) at (c .received .ensures)
 
+decision : (c : tie.After-admit) → let a = c .before .before .before .before .before .before .before .args in Decided (rx-op (a .rx-boost) (rxModeOf (a .rx-code) (a .n))) (now (a .image)) (now (a .log)) (a .used) (c .admit .result)
+decision c = let a = c .before .before .before .before .before .before .before .args in decided (rx-op (a .rx-boost) (rxModeOf (a .rx-code) (a .n))) (now (a .image)) (now (a .log)) (a .used) (told-of (c .before .before .before) .0) refl (c .admit .ensures)
+
 write-rx-requires : tie.Need-write-rx-requires
 write-rx-requires c κs =
     let told = c .before .before in
     let verdict = told .before .before in
-    let a = verdict .before .before .before .before .before .before .before .args in
-    let room = room-for (rx-op (a .rx-boost) (rxModeOf (a .rx-code) (a .n))) (now (a .image)) (now (a .log)) (a .used) (told-of (verdict .before .before .before) .0) refl (verdict .admit .ensures) (told .enum-told .given .1) in
+    let room = decision verdict .room (told .enum-told .given .1) in
     (omega arith, room .whole)
 
 returns : tie.Need-returns
 returns c =
     let e = c .before in
     let verdict = e .before .before in
-    let a = verdict .before .before .before .before .before .before .before .args in
-    refused (rx-op (a .rx-boost) (rxModeOf (a .rx-code) (a .n))) (now (a .image)) (now (a .log)) (a .used) (told-of (verdict .before .before .before) .0) refl (verdict .admit .ensures) (e .e .given .1)
+    decision verdict .refused (e .e .given .1)
 
 returns-2 : tie.Need-returns-2
 returns-2 c =
     let w = c .before .before .before .before in
     let told = w .before .before .before in
     let verdict = told .before .before in
-    let a = verdict .before .before .before .before .before .before .before .args in
-    done (rx-op (a .rx-boost) (rxModeOf (a .rx-code) (a .n))) (now (a .image)) (now (a .log)) (a .used) (told-of (verdict .before .before .before) .0) refl (verdict .admit .ensures) (told .enum-told .given .1) (rw (told-of (verdict .before .before .before) .1 .0, told-of (verdict .before .before .before) .1 .1) at (w .write-rx .ensures))
+    decision verdict .done (told .enum-told .given .1) (rw (told-of (verdict .before .before .before) .1 .0, told-of (verdict .before .before .before) .1 .1) at (w .write-rx .ensures))
 
 pub do-rx-spec : {M : Type 1} → statement M
 do-rx-spec =

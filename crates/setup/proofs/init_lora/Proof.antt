@@ -4,33 +4,33 @@ use borrow.Author.Needs.{needs}
 use mathlib.Core.Path.{refl}
 use native.Mathlib.Omega.{arith}
 use denote.Ref.{now}
-use Rattle.admit.proofs.Calls.{room-for, refused, done}
+use Rattle.admit.proofs.Calls.{Decided, decided}
 use Rattle.operations.proofs.Operations.{init-op}
 use Rattle.setup.proofs.init_lora.Statement.{statement}
 use Rattle.setup.proofs.init_lora.Tie as tie
+
+decision : (c : tie.After-admit) → let a = c .before .before .before .before .before .before .before .args in Decided (init-op (a .board) (a .is-public-network)) (now (a .image)) (now (a .log)) (a .used) (c .admit .result)
+decision c = let a = c .before .before .before .before .before .before .before .args in decided (init-op (a .board) (a .is-public-network)) (now (a .image)) (now (a .log)) (a .used) (c .before .before .before .before .flag .ensures) (c .before .init-records .ensures .0) (c .admit .ensures)
 
 write-init-requires : tie.Need-write-init-requires
 write-init-requires c κs =
     let told = c .before .before in
     let verdict = told .before .before in
-    let a = verdict .before .before .before .before .before .before .before .args in
-    let room = room-for (init-op (a .board) (a .is-public-network)) (now (a .image)) (now (a .log)) (a .used) (verdict .before .before .before .before .flag .ensures) (verdict .before .init-records .ensures .0) (verdict .admit .ensures) (told .enum-told .given .1) in
+    let room = decision verdict .room (told .enum-told .given .1) in
     (omega arith, room .whole)
 
 returns : tie.Need-returns
 returns c =
     let e = c .before in
     let verdict = e .before .before in
-    let a = verdict .before .before .before .before .before .before .before .args in
-    refused (init-op (a .board) (a .is-public-network)) (now (a .image)) (now (a .log)) (a .used) (verdict .before .before .before .before .flag .ensures) (verdict .before .init-records .ensures .0) (verdict .admit .ensures) (e .e .given .1)
+    decision verdict .refused (e .e .given .1)
 
 returns-2 : tie.Need-returns-2
 returns-2 c =
     let w = c .before .before .before .before in
     let told = w .before .before .before in
     let verdict = told .before .before in
-    let a = verdict .before .before .before .before .before .before .before .args in
-    done (init-op (a .board) (a .is-public-network)) (now (a .image)) (now (a .log)) (a .used) (verdict .before .before .before .before .flag .ensures) (verdict .before .init-records .ensures .0) (verdict .admit .ensures) (told .enum-told .given .1) (w .write-init .ensures)
+    decision verdict .done (told .enum-told .given .1) (w .write-init .ensures)
 
 pub init-lora-spec : {M : Type 1} → statement M
 init-lora-spec =

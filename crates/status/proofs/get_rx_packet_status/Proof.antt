@@ -10,12 +10,15 @@ use lib.ListN.{length}
 use Rattle.sheets.specs.declared.Variant.{Variant}
 use Rattle.sheets.specs.declared.Variant.the-variants.{Sx1272, Sx1276}
 use Rattle.log.specs.Steps.{endAfter}
-use Rattle.admit.proofs.Calls.{room-for, refused, done}
+use Rattle.admit.proofs.Calls.{Decided, decided}
 use Rattle.operations.specs.Packets.{measuring}
 use Rattle.operations.proofs.Counts.{measuringRecords, measuring-count}
 use Rattle.operations.proofs.Operations.{status-op}
 use Rattle.status.proofs.get_rx_packet_status.Statement.{statement}
 use Rattle.status.proofs.get_rx_packet_status.Tie as tie
+
+decision : (c : tie.After-admit) → let a = c .before .before .before .before .before .args in Decided (status-op (a .variant) (now (a .image))) (now (a .image)) (now (a .log)) (a .used) (c .admit .result)
+decision c = let a = c .before .before .before .before .before .args in decided (status-op (a .variant) (now (a .image))) (now (a .image)) (now (a .log)) (a .used) refl (c .before .before .status-records .ensures .0) (c .admit .ensures)
 
 room-of : (v : Variant) (im : List ℕ) (at n : ℕ) → at + 3 * measuringRecords v ≤ n → (at + 6 ≤ n) × (endAfter (measuring v) im at ≤ n)
 room-of Sx1272 im at n h = omega arith
@@ -26,23 +29,21 @@ measure-requires c κs =
     let told = c .before in
     let verdict = told .before .before in
     let a = verdict .before .before .before .before .before .args in
-    let room = room-for (status-op (a .variant) (now (a .image))) (now (a .image)) (now (a .log)) (a .used) refl (verdict .before .before .status-records .ensures .0) (verdict .admit .ensures) (told .enum-told .given .1) in
+    let room = decision verdict .room (told .enum-told .given .1) in
     (room-of (a .variant) (now (a .image)) (a .used) (length (now (a .log))) (room .room), room .whole)
 
 add-t16 : tie.Need-add-t16
 add-t16 c =
     let told = c .before .before .before .before in
     let verdict = told .before .before in
-    let a = verdict .before .before .before .before .before .args in
-    let room = room-for (status-op (a .variant) (now (a .image))) (now (a .image)) (now (a .log)) (a .used) refl (verdict .before .before .status-records .ensures .0) (verdict .admit .ensures) (told .enum-told .given .1) in
+    let room = decision verdict .room (told .enum-told .given .1) in
     omega (arith, verdict .before .before .status-records .ensures .0)
 
 returns : tie.Need-returns
 returns c =
     let e = c .before in
     let verdict = e .before .before in
-    let a = verdict .before .before .before .before .before .args in
-    refused (status-op (a .variant) (now (a .image))) (now (a .image)) (now (a .log)) (a .used) refl (verdict .before .before .status-records .ensures .0) (verdict .admit .ensures) (e .e .given .1)
+    decision verdict .refused (e .e .given .1)
 
 returns-2 : tie.Need-returns-2
 returns-2 c =
@@ -52,7 +53,7 @@ returns-2 c =
     let a = verdict .before .before .before .before .before .args in
     let records = verdict .before .before .status-records .ensures .0 in
     rw (m .measure .ensures .0)
-    (done (status-op (a .variant) (now (a .image))) (now (a .image)) (now (a .log)) (a .used) refl (verdict .before .before .status-records .ensures .0) (verdict .admit .ensures) (told .enum-told .given .1)
+    (decision verdict .done (told .enum-told .given .1)
     (record { ends = rw records (sym (measuring-count (a .variant) (now (a .image)) (a .used))); logged = m .measure .ensures .1 .logged; stored = m .measure .ensures .1 .stored }))
 
 pub get-rx-packet-status-spec : {M : Type 1} → statement M
