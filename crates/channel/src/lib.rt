@@ -14,7 +14,7 @@ use params::mod_params::Verdict;
 use registers::radio_kind_params::Register;
 use units::Hertz;
 
-fn write_channel(image: &mut [u8], log: &mut [u8], at: usize, frequency: Hertz) -> usize
+pub fn write_channel(image: &mut [u8], log: &mut [u8], at: usize, frequency: Hertz) -> usize
     requires { ⌜ (at + 9 ≤ length (now log)) × (length (now image) ≡ 128) ⌝ }
     ensures { λ r. ⌜ Done (channel (frequency .0)) (now (image .entry)) (now (log .entry)) at r (now (image .exit)) (now (log .exit)) ⌝ }
 {

@@ -84,7 +84,7 @@ fn write_framing(
     }
 }
 
-fn write_packet(
+pub fn write_packet(
     image: &mut [u8],
     log: &mut [u8],
     at: usize,

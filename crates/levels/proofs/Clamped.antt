@@ -5,14 +5,15 @@ use mathlib.Core.Bool.{Bool, true, false, cond}
 use Prim.Native.Nat.{ℕ}
 use native.Mathlib.Omega.{arith}
 use borrow.Author.Tests.{le-ltb}
-use lib.Dec.{leb→le}
+use lib.Dec.{T, leb→le}
 use lib.IntN.{ℤ, pos, negsuc, _+ℤ_}
 use lib.Signed.{ltZ, _≤ℤ_, leZ-yes, ltZ-no, ≤ℤ-refl}
 use Rattle.sheets.specs.declared.Variant.{Variant}
 use Rattle.sheets.specs.declared.Variant.the-variants.{Sx1272, Sx1276}
 use Rattle.sheets.specs.Power.{least, most, clamped, paConfig, paDac, ocp}
 use Rattle.levels.specs.Ranges.{bounded, InRange}
-use Rattle.levels.proofs.Whole.{Above, above}
+use Rattle.sheets.proofs.Sweep.{every}
+use Rattle.levels.proofs.Whole.{Above, above, among-test}
 
 -- a test that failed
 at-least : (low z : ℤ) → ltZ z low ≡ false → low ≤ℤ z
@@ -53,7 +54,7 @@ kept : (v : Variant) (boost : Bool) (c : ℤ) → InRange v boost c → clamped 
 unfolding clamped
 kept v boost c h = rw (not-below (least v boost) c (h .0), not-below c (most boost) (h .1))
 
-again : (v : Variant) (boost : Bool) (p : ℤ) → clamped v boost (clamped v boost p) ≡ clamped v boost p
+pub again : (v : Variant) (boost : Bool) (p : ℤ) → clamped v boost (clamped v boost p) ≡ clamped v boost p
 again v boost p = kept v boost (clamped v boost p) (clamped-range v boost p)
 
 -- what the registers hold by the clamped power c is what they hold by the power that was asked
@@ -72,3 +73,13 @@ module _ (v : Variant) (boost : Bool) (p : ℤ) {c : ℤ} (is : c ≡ clamped v 
 pub ocp-of : (boost : Bool) (p : ℤ) {c : ℤ} → c ≡ clamped Sx1276 boost p → ocp boost c ≡ ocp boost p
 unfolding ocp
 ocp-of boost p is = rw (is, again Sx1276 boost p)
+
+-- a test that passes at each power of each output
+pub at-clamped : (f : Variant → Bool → ℤ → Bool)
+    → T (every (λ k. f Sx1272 true (pos 2 +ℤ pos k)) 0 19) → T (every (λ k. f Sx1272 false (negsuc 0 +ℤ pos k)) 0 16)
+    → T (every (λ k. f Sx1276 true (pos 2 +ℤ pos k)) 0 19) → T (every (λ k. f Sx1276 false (negsuc 3 +ℤ pos k)) 0 19)
+    → (v : Variant) (boost : Bool) (p : ℤ) → T (f v boost (clamped v boost p))
+at-clamped f a b c d Sx1272 true p = let r = clamped-range Sx1272 true p in among-test (pos 2) 18 (f Sx1272 true) a (clamped Sx1272 true p) (r .0) (r .1)
+at-clamped f a b c d Sx1272 false p = let r = clamped-range Sx1272 false p in among-test (negsuc 0) 15 (f Sx1272 false) b (clamped Sx1272 false p) (r .0) (r .1)
+at-clamped f a b c d Sx1276 true p = let r = clamped-range Sx1276 true p in among-test (pos 2) 18 (f Sx1276 true) c (clamped Sx1276 true p) (r .0) (r .1)
+at-clamped f a b c d Sx1276 false p = let r = clamped-range Sx1276 false p in among-test (negsuc 3) 18 (f Sx1276 false) d (clamped Sx1276 false p) (r .0) (r .1)

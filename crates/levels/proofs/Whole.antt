@@ -5,13 +5,13 @@ use mathlib.Core.Bool.{Bool, true, false, cond}
 use Prim.Native.Nat.{ℕ, suc, _+_, _-_, _^_, _≤_, _<_}
 use native.Mathlib.Omega.{arith}
 use borrow.Author.Tests.{ltb-false, lt-ltb, le-ltb}
-use lib.Dec.{T, ltb, eqb, leb→le}
+use lib.Dec.{T, ltb, eqb, eqb→eq, leb→le}
 use lib.IntN.{ℤ, pos, negsuc, _+ℤ_, _-ℤ_, +ℤ-comm, +ℤ-negℤ-cancel}
 use lib.Signed.{mag, leZ, _≤ℤ_}
 use mir.Syntax.{w32}
 use mir.Val.{toZ, ofZ}
 use mir.ValLaws.{toZ-ofZ}
-use Rattle.sheets.proofs.Sweep.{every, equal}
+use Rattle.sheets.proofs.Sweep.{every, at}
 
 -- an i32 is read back from its bits as it was
 pub held : (z : ℤ) → mag z < 2 ^ 31 → toZ w32 (ofZ w32 z) ≡ z
@@ -57,9 +57,13 @@ above (negsuc a) n (negsuc b) l u =
 pub above-is : (low : ℤ) (k : ℕ) → (low +ℤ pos k) -ℤ low ≡ pos k
 above-is low k = rw (+ℤ-comm low (pos k)) (+ℤ-negℤ-cancel (pos k) low)
 
--- two functions that are equal at each number from low to n above it
+-- a test that passes at each number from low to n above it
+pub among-test : (low : ℤ) (n : ℕ) (f : ℤ → Bool) → T (every (λ k. f (low +ℤ pos k)) 0 (suc n)) → (z : ℤ) → low ≤ℤ z → z ≤ℤ (low +ℤ pos n) → T (f z)
+among-test low n f t z l u =
+    let r = above low n z l u in
+    rw (r .is) (at (λ k. f (low +ℤ pos k)) 0 (suc n) t (r .by) (omega arith) (omega arith))
+
+-- two functions that are equal at each of them
 pub among : (low : ℤ) (n : ℕ) (f g : ℤ → ℕ) → T (every (λ k. eqb (f (low +ℤ pos k)) (g (low +ℤ pos k))) 0 (suc n)) → (z : ℤ)
     → low ≤ℤ z → z ≤ℤ (low +ℤ pos n) → f z ≡ g z
-among low n f g t z l u =
-    let r = above low n z l u in
-    rw (r .is) (equal 0 (suc n) (λ k. f (low +ℤ pos k)) (λ k. g (low +ℤ pos k)) t (r .by) (omega arith) (omega arith))
+among low n f g t z l u = eqb→eq (f z) (g z) (among-test low n (λ x. eqb (f x) (g x)) t z l u)

@@ -8,7 +8,7 @@ use native.Mathlib.Omega.{arith}
 use lib.ListN.{getD, set, length, length-set}
 use lib.Seq.{getD-set-other}
 use Rattle.log.specs.Access.{Access, read, write, fifoRead, fifoWrite, rfSwitch, resetPin, sleepWrite, kind, place, datum, put3, imageBy}
-use Rattle.log.specs.Steps.{Step, accesses, imagePlayed, logPlayed, endPlayed, imageAfter, logAfter, endAfter, fifoAfter, bufferAfter, Done}
+use Rattle.log.specs.Steps.{Step, accesses, imagePlayed, logPlayed, endPlayed, imageAfter, logAfter, endAfter, fifoAfter, bufferAfter, Done, Makes}
 
 -- ---- one run after another
 
@@ -41,6 +41,10 @@ then {s} {t} {im} {im′} {im″} {log} {log′} {log″} {at} {r} {r′} p q = 
   logged = rw (log-append s t im log at, ← p .logged, ← p .stored, ← p .ends) (q .logged);
   stored = rw (image-append s t im, ← p .stored) (q .stored);
 }
+
+-- and make the records of both
+pub makes-then : (s t : List Step) (n m : ℕ) → Makes s n → Makes t m → Makes (s ++ t) (n + m)
+makes-then s t n m p q im at = ends-append s t im at ∙ q (imageAfter s im) (endAfter s im at) ∙ omega (arith, p im at)
 
 -- ---- lengths
 

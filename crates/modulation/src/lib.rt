@@ -38,7 +38,7 @@ fn write_modem(
     }
 }
 
-fn write_modulation(
+pub fn write_modulation(
     image: &mut [u8],
     log: &mut [u8],
     at: usize,

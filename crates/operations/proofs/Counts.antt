@@ -9,13 +9,18 @@ use lib.IntN.{ℤ}
 use Rattle.sheets.specs.declared.Variant.{Variant}
 use Rattle.sheets.specs.declared.Variant.the-variants.{Sx1272, Sx1276}
 use Rattle.sheets.specs.Interrupts.{Activity}
+use Rattle.sheets.specs.Modem.{optimize}
+use Rattle.params.specs.declared.mod_params.Link.{Link}
+use Rattle.registers.specs.declared.board.Board.{Board}
 use Rattle.log.specs.Steps.{Makes, Quiet}
-use Rattle.operations.specs.Setup.{oscillator, network, bases, channel}
+use Rattle.log.proofs.Runs.{makes-then}
+use Rattle.operations.specs.Setup.{oscillator, network, bases, initialization, channel}
 use Rattle.operations.specs.Modem.{modulation, framing, packet}
 use Rattle.operations.specs.Power.{power}
 use Rattle.operations.specs.Modes.{standby, sleep, resetting, transmission, detecting, reception, carrierTest}
 use Rattle.operations.specs.Packets.{sending, fetching, measuring}
 use Rattle.operations.specs.Interrupts.{preparing, looking}
+use Rattle.operations.specs.Programming.{programming, linkModulation, linkPacket}
 
 abbrev pub oscillatorRecords : Bool → ℕ
 oscillatorRecords true = 1
@@ -141,3 +146,32 @@ looking-count (suc c) im at = omega arith
 pub looking-quiet : (clear : ℕ) → Quiet (looking clear)
 looking-quiet zero im = refl
 looking-quiet (suc c) im = refl
+
+-- 29 on the SX1276 and 22 on the SX1272, one more with TCXO
+abbrev pub programRecords : Variant → Bool → ℕ
+programRecords v tcxo = initRecords tcxo + (3 + (modulationRecords v + (packetRecords v + powerRecords v)))
+
+pub program-count : (b : Board) (l : Link) → Makes (programming b l) (programRecords (b .variant) (b .«tcxo_used»))
+program-count b l =
+    let v = b .variant in
+    let framed = linkPacket b l ++ power v (b .«tx_boost») (l .power) 0 in
+    let modulated = linkModulation b l ++ framed in
+    let framing = packetRecords v + powerRecords v in
+    makes-then (initialization b (l .«public_network»)) (channel (l .frequency .0) ++ modulated) (initRecords (b .«tcxo_used»)) (3 + (modulationRecords v + framing))
+    (init-count v (b .«tcxo_used») (l .«public_network»))
+    (makes-then (channel (l .frequency .0)) modulated 3 (modulationRecords v + framing) (channel-count (l .frequency .0))
+    (makes-then (linkModulation b l) framed (modulationRecords v) framing
+    (modulation-count v (l .«spreading_factor») (l .bandwidth) (l .«coding_rate») (optimize (l .«spreading_factor») (l .bandwidth)))
+    (makes-then (linkPacket b l) (power v (b .«tx_boost») (l .power) 0) (packetRecords v) (powerRecords v)
+    (packet-count v (l .«preamble_length») (l .«implicit_header») (l .«crc_on») (l .«iq_inverted»))
+    (power-count v (b .«tx_boost») (l .power) 0))))
+
+program-fills : (v : Variant) (tcxo : Bool) (boost rx : Bool) (l : Link)
+    → Quiet (programming (record { variant = v; «tcxo_used» = tcxo; «tx_boost» = boost; «rx_boost» = rx }) l)
+program-fills Sx1272 true boost rx l im = refl
+program-fills Sx1272 false boost rx l im = refl
+program-fills Sx1276 true boost rx l im = refl
+program-fills Sx1276 false boost rx l im = refl
+
+pub program-quiet : (b : Board) (l : Link) → Quiet (programming b l)
+program-quiet b l = program-fills (b .variant) (b .«tcxo_used») (b .«tx_boost») (b .«rx_boost») l

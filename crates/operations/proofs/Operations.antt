@@ -11,13 +11,14 @@ use Rattle.sheets.specs.Registers.{RegIrqFlags}
 use Rattle.sheets.specs.Interrupts.{event}
 use Rattle.params.specs.declared.mod_params.ModulationParams.{ModulationParams}
 use Rattle.params.specs.declared.mod_params.PacketParams.{PacketParams}
+use Rattle.params.specs.declared.mod_params.Link.{Link}
 use Rattle.params.specs.declared.mod_params.Verdict.{Verdict}
 use Rattle.params.specs.declared.mod_params.Verdict.the-variants.{Clear}
 use Rattle.params.specs.Errors.{Told, or}
 use Rattle.registers.specs.declared.board.Board.{Board}
 use Rattle.mode_codes.specs.declared.RxModeCode.{RxModeCode}
 use Rattle.mode_codes.specs.declared.ModeCode.{ModeCode}
-use Rattle.refusals.specs.Refusals.{flag, baseAddresses, carrier}
+use Rattle.refusals.specs.Refusals.{flag, baseAddresses, carrier, linkRefusal}
 use Rattle.log.specs.Steps.{Step, Makes, Quiet}
 use Rattle.admit.specs.Call.{well}
 use Rattle.admit.proofs.Calls.{Operation}
@@ -27,6 +28,7 @@ use Rattle.operations.specs.Power.{power}
 use Rattle.operations.specs.Modes.{standby, sleep, resetting, transmission, detecting, reception, carrierTest, rxRefusal, rxWindow, rxOpMode}
 use Rattle.operations.specs.Packets.{measuring, measured}
 use Rattle.operations.specs.Interrupts.{preparing, activityOf, irqRefusal, looking, eventRefusal, eventTold}
+use Rattle.operations.specs.Programming.{programming}
 use Rattle.operations.proofs.Counts as count
 
 -- an operation that has nothing to tell
@@ -95,3 +97,7 @@ event-op m clear im = record {
   makes = count.looking-count clear;
   quiet = count.looking-quiet clear;
 }
+
+abbrev pub program-op : Board → Link → Operation
+program-op b l =
+    plain (linkRefusal (b .variant) l) (programming b l) (count.programRecords (b .variant) (b .«tcxo_used»)) (count.program-count b l) (count.program-quiet b l)

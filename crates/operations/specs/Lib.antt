@@ -4,3 +4,4 @@ pub mod Power
 pub mod Modes
 pub mod Packets
 pub mod Interrupts
+pub mod Programming

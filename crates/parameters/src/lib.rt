@@ -38,7 +38,7 @@ pub fn packet_named(implicit_header: u8, crc_on: u8, iq_inverted: u8) -> Verdict
 }
 
 // A symbol of more than 16 ms, by the Rust's two divisions.
-fn low_data_rate_optimize(spreading_factor: u8, bandwidth: u8) -> u8
+pub fn low_data_rate_optimize(spreading_factor: u8, bandwidth: u8) -> u8
     requires { ⌜ («spreading_factor» ≤ 12) × (bandwidth < 10) ⌝ }
     ensures { λ r. ⌜ r ≡ optimize «spreading_factor» bandwidth ⌝ }
 {

@@ -54,7 +54,7 @@ fn ramp_value(variant: Variant, is_tx_prep: u8) -> u8
     ramp_bit(variant) + ramp_time.value()
 }
 
-fn write_power(
+pub fn write_power(
     image: &mut [u8],
     log: &mut [u8],
     at: usize,

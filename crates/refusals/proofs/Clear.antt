@@ -4,6 +4,7 @@ use mathlib.Core.Path.{_≡_, refl, sym}
 use mathlib.Core.Bool.{Bool, true, false, _&&_}
 use Prim.Native.Nat.{ℕ, _≤_}
 use native.Mathlib.Omega.{arith}
+use borrow.Author.Tests.{le-leb}
 use lib.Dec.{T, leb, leb→le}
 use Rattle.sheets.proofs.Sweep.{both}
 use Rattle.params.specs.declared.mod_params.RadioError.{RadioError}
@@ -29,3 +30,7 @@ pub named-clear : (first last code : ℕ) → named first last code ≡ Clear �
 named-clear first last code p =
     let t = both (leb first code) (leb code last) (passes (leb first code && leb code last) InvalidConfiguration p) in
     (leb→le first code (t .0), leb→le code last (t .1))
+
+-- and one that lies in it names a case
+pub named-if : (first last code : ℕ) → first ≤ code → code ≤ last → named first last code ≡ Clear
+named-if first last code l h = rw (le-leb first code l, le-leb code last h)

@@ -71,10 +71,9 @@ abbrev pub first : List Verdict → Verdict
 first [] = Clear
 first (v ∷ vs) = or v (first vs)
 
-unfoldable pub linkRefusal : Variant → Link → Verdict
-linkRefusal v l =
-    first
-    (flag (l .«public_network»)
+abbrev pub linkVerdicts : Variant → Link → List Verdict
+linkVerdicts v l =
+    flag (l .«public_network»)
     ∷ spreadingFactor (l .«spreading_factor»)
     ∷ bandwidth (l .bandwidth)
     ∷ codingRate (l .«coding_rate»)
@@ -86,4 +85,7 @@ linkRefusal v l =
     ∷ bandwidthForFrequency (l .bandwidth) (l .frequency .0)
     ∷ headerForSpreadingFactor (l .«spreading_factor») (l .«implicit_header»)
     ∷ frequencyRange (l .frequency .0)
-    ∷ [])
+    ∷ []
+
+unfoldable pub linkRefusal : Variant → Link → Verdict
+linkRefusal v l = first (linkVerdicts v l)

@@ -52,7 +52,7 @@ fn syncword(is_public_network: u8) -> u8
     }
 }
 
-fn write_init(
+pub fn write_init(
     image: &mut [u8],
     log: &mut [u8],
     at: usize,

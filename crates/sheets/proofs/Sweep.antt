@@ -13,6 +13,10 @@ pub both : (a b : Bool) → T (a && b) → T a × T b
 both true b t = (tt, t)
 both false b t = absurd t
 
+pub joined : (a b : Bool) → T a → T b → T (a && b)
+joined true b p q = q
+joined false b p q = p
+
 -- the test passes at each of the n numbers from a on
 abbrev pub every : (ℕ → Bool) → ℕ → ℕ → Bool
 every f a zero = true
@@ -33,6 +37,15 @@ at f a (suc n) t k h l =
 -- two functions that are equal at each number of a range
 pub equal : (a n : ℕ) (f g : ℕ → ℕ) → T (every (λ k. eqb (f k) (g k)) a n) → (k : ℕ) → a ≤ k → k < a + n → f k ≡ g k
 equal a n f g t k h l = eqb→eq (f k) (g k) (at (λ i. eqb (f i) (g i)) a n t k h l)
+
+-- at each pair and each triple of numbers below bounds
+pub equal₂ : (m n : ℕ) (f g : ℕ → ℕ → ℕ) → T (every (λ i. every (λ j. eqb (f i j) (g i j)) 0 n) 0 m) → (i j : ℕ) → i < m → j < n → f i j ≡ g i j
+equal₂ m n f g t i j h k = equal 0 n (f i) (g i) (at (λ x. every (λ y. eqb (f x y) (g x y)) 0 n) 0 m t i (omega arith) (omega arith)) j (omega arith) (omega arith)
+
+pub equal₃ : (l m n : ℕ) (f g : ℕ → ℕ → ℕ → ℕ) → T (every (λ h. every (λ i. every (λ j. eqb (f h i j) (g h i j)) 0 n) 0 m) 0 l)
+    → (h i j : ℕ) → h < l → i < m → j < n → f h i j ≡ g h i j
+equal₃ l m n f g t h i j u =
+    equal₂ m n (f h) (g h) (at (λ x. every (λ y. every (λ z. eqb (f x y z) (g x y z)) 0 n) 0 m) 0 l t h (omega arith) (omega arith)) i j
 
 -- and two tests
 abbrev pub same : Bool → Bool → Bool

@@ -1,0 +1,5 @@
+pub mod Acceptance
+pub mod Power
+pub mod Lawful
+pub mod Cells
+pub mod Sequence

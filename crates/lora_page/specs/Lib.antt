@@ -1,0 +1,3 @@
+pub mod Links
+pub mod Lora
+pub mod Reading

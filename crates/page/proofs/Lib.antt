@@ -1,0 +1,3 @@
+pub mod Mask
+pub mod Demand3
+pub mod Prefix

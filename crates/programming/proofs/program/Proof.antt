@@ -1,0 +1,51 @@
+-- `programming::program` meets its contract: the verdict decides its outcome, and a clear one gives the room that the steps ask.
+-- Assumes nothing.
+use borrow.Author.Needs.{needs}
+use native.Mathlib.Omega.{arith}
+use denote.Ref.{now}
+use Rattle.admit.proofs.Calls.{Decided, decided}
+use Rattle.operations.proofs.Operations.{program-op}
+use Rattle.programming.proofs.program.Statement.{statement}
+use Rattle.programming.proofs.program.Tie as tie
+
+decision : (c : tie.After-admit) → let a = c .before .before .before .before .before .before .before .args in Decided (program-op (a .board) (a .link)) (now (a .image)) (now (a .log)) (a .used) (c .admit .result)
+decision c =
+    let a = c .before .before .before .before .before .before .before .args in
+    decided (program-op (a .board) (a .link)) (now (a .image)) (now (a .log)) (a .used) (c .before .before .before .before .link-refusal .ensures) (c .before .program-records .ensures .0) (c .admit .ensures)
+
+write-link-requires : tie.Need-write-link-requires
+write-link-requires c κs =
+    let told = c .before .before in
+    let verdict = told .before .before in
+    let room = decision verdict .room (told .enum-told .given .1) in
+    ((omega arith, room .whole), room .clear)
+
+returns : tie.Need-returns
+returns c =
+    let e = c .before in
+    let verdict = e .before .before in
+    decision verdict .refused (e .e .given .1)
+
+returns-2 : tie.Need-returns-2
+returns-2 c =
+    let w = c .before .before .before .before in
+    let told = w .before .before .before in
+    let verdict = told .before .before in
+    decision verdict .done (told .enum-told .given .1) (w .write-link .ensures)
+
+pub program-spec : {M : Type 1} → statement M
+program-spec =
+    tie.close
+    (tie.spec
+    (λ c κs. search needs)
+    (λ c κs. search needs)
+    (λ c κs. search needs)
+    (λ c. search needs)
+    (λ c. search needs)
+    write-link-requires
+    (λ c. search needs)
+    (λ c. search needs)
+    returns
+    (λ c. search needs)
+    (λ c. search needs)
+    returns-2)

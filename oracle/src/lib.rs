@@ -1,0 +1,15 @@
+//! The oracle: what a call of the driver is to answer, told by the unchanged Rust over a mock bus and pins.
+pub mod call;
+pub mod chip;
+pub mod driver;
+pub mod library;
+pub mod maker;
+pub mod random;
+pub mod reader;
+pub mod rules;
+pub mod run;
+pub mod text;
+
+pub use call::{Argument, Board, Call, Numbers, Operation, Outcome, Source, Variant};
+pub use run::{run, run_into};
+pub use text::{answer, parse, print, print_call};
