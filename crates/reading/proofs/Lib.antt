@@ -1,0 +1,5 @@
+pub mod Parted
+pub mod Tests
+pub mod Valued
+pub mod Minus
+pub mod Pairs

@@ -1,0 +1,17 @@
+-- A test of each element of a text, as a loop makes it.
+-- Assumes nothing.
+use mathlib.Core.Path.{_≡_, refl}
+use mathlib.Core.List.{List}
+use mathlib.Core.Bool.{Bool, true, false}
+use Prim.Native.Nat.{ℕ, suc, _+_, _<_}
+use native.Mathlib.Numerals.{add-one}
+use lib.ListN.{length, drop, getD}
+use lib.Seq.{drop-cons}
+use Rattle.reading.specs.Decimal.{all}
+
+module _ (p : ℕ → Bool) (s : List ℕ) (i : ℕ) (h : i < length s) where
+  pub passes : p (getD s i 0) ≡ true → all p (drop i s) ≡ all p (drop (i + 1) s)
+  passes e = rw (add-one i, drop-cons s i 0, e)
+
+  pub fails : p (getD s i 0) ≡ false → all p (drop i s) ≡ false
+  fails e = rw (drop-cons s i 0, e)
