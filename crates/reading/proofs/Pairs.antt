@@ -2,7 +2,7 @@
 -- Assumes nothing.
 use mathlib.Core.Path.{_≡_, refl, sym, ap, _∙_}
 use mathlib.Core.List.{List, [], _∷_, _++_, append-assoc, append-nil}
-use mathlib.Core.Bool.{Bool, true, false, _&&_}
+use mathlib.Core.Bool.{true, _&&_}
 use Prim.Native.Nat.{ℕ, suc, _+_, _*_, _-_, _≤_, _<_}
 use native.Mathlib.Numerals.{add-one}
 use native.Mathlib.Omega.{arith}
@@ -10,12 +10,8 @@ use borrow.Author.Tests.{leb-true}
 use lib.Dec.{leb}
 use lib.ListN.{length, take, drop, getD, set, take-append-drop, length-drop}
 use lib.Seq.{drop-cons, take-suc-set, drop-set-lt, drop-drop}
-use Rattle.reading.specs.Decimal.{isDigit}
-use Rattle.reading.specs.Hex.{isLetter, nibble, bytesOf}
-
-and-true : (p q : Bool) → (p && q) ≡ true → (p ≡ true) × (q ≡ true)
-and-true true q e = (refl, e)
-and-true false q e = absurd (let z : _≡_ {A = ℕ} 0 1 = cc in omega arith)
+use Rattle.reading.specs.Hex.{nibble, bytesOf}
+use Rattle.reading.proofs.Tests.{and-true}
 
 -- two bounds that were tested together
 pub bounds : (a b c d : ℕ) → (leb a b && leb c d) ≡ true → (a ≤ b) × (c ≤ d)

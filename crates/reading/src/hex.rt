@@ -90,6 +90,13 @@ fn decode(s: &[u8], a: u8, out: &mut [u8])
     }
 }
 
+// Whole bytes, of digits alone; none is whole too.
+pub fn is_hex(s: &[u8], case: Case) -> bool
+    ensures { λ r. ⌜ r ≡ hexDigits (tenOf case) (now (s .entry)) ⌝ }
+{
+    hex_digits(s, ten(case))
+}
+
 // Puts the bytes that the text says at the start of out, where out has room for them; else out stays as it is.
 pub fn read_hex(s: &[u8], case: Case, out: &mut [u8]) -> Bytes
     ensures { λ r. ⌜ (r ≡ bytesRead case (now (s .entry)) (length (now (out .entry)))) × (now (out .exit) ≡ bytesLeft case (now (s .entry)) (now (out .entry))) ⌝ }
