@@ -29,21 +29,24 @@ checked right f = cond right Clear (Wrong f)
 abbrev pub at : ℕ → List ℕ → List ℕ
 at k line = fieldAt 9 k line
 
-abbrev pub isVariant : List ℕ → Bool
-isVariant s = alike s (ascii "1272") || alike s (ascii "1276")
-
-abbrev pub isFlag : List ℕ → Bool
-isFlag s = alike s (ascii "0") || alike s (ascii "1")
+abbrev pub isEither : List ℕ → List ℕ → List ℕ → Bool
+isEither a b s = alike s a || alike s b
 
 -- 1 to 1,024 bytes, or none
 abbrev pub isLent : List ℕ → Bool
 isLent s = alike s (ascii "-") || (leb 1 (length s) && (leb (length s) 2048 && hexDigits (ten Lower) s))
 
+-- field k, which is told as number n
+unfoldable pub flagFlaw : ℕ → ℕ → List ℕ → Flaw
+flagFlaw k n line = checked (isEither (ascii "0") (ascii "1") (at k line)) (Flag n)
+
+unfoldable pub bytesFlaw : ℕ → ℕ → List ℕ → Flaw
+bytesFlaw k n line = checked (isLent (at k line)) (Bytes n)
+
 unfoldable pub headFlaw : List ℕ → Flaw
 headFlaw line =
-    orElse (checked (isVariant (at 0 line)) Variant)
-    (orElse (checked (isFlag (at 1 line)) (Flag 2))
-    (orElse (checked (isFlag (at 2 line)) (Flag 3)) (checked (isFlag (at 3 line)) (Flag 4))))
+    orElse (checked (isEither (ascii "1272") (ascii "1276") (at 0 line)) Variant)
+    (orElse (flagFlaw 1 2 line) (orElse (flagFlaw 2 3 line) (flagFlaw 3 4 line)))
 
 abbrev pub argumentsFlaw : Named → List ℕ → Flaw
 argumentsFlaw Unknown s = Wrong UnknownOperation
@@ -53,10 +56,7 @@ unfoldable pub askedFlaw : List ℕ → Flaw
 askedFlaw line = argumentsFlaw (operationOf (at 4 line)) (at 5 line)
 
 unfoldable pub lentFlaw : List ℕ → Flaw
-lentFlaw line =
-    orElse (checked (isLent (at 6 line)) (Bytes 7))
-    (orElse (checked (isLent (at 7 line)) (Bytes 8))
-    (orElse (checked (isLent (at 8 line)) (Bytes 9)) (checked (isLent (at 9 line)) (Bytes 10))))
+lentFlaw line = orElse (bytesFlaw 6 7 line) (orElse (bytesFlaw 7 8 line) (orElse (bytesFlaw 8 9 line) (bytesFlaw 9 10 line)))
 
 unfoldable pub usedFlaw : List ℕ → Flaw
 usedFlaw line = checked (isNumber (numberOf count (at 10 line))) Used

@@ -1,7 +1,6 @@
 // Calls as lines of text: whether a line is a call, and what is wrong with it first where it is none.
 ghost use mathlib.Core.Path.{_≡_};
-ghost use mathlib.Core.Bool.{cond};
-ghost use Rattle.requests.specs.Flaws.{orElse, checked, isVariant, isFlag, isLent, headFlaw, askedFlaw, lentFlaw, usedFlaw, flawOf};
+ghost use Rattle.requests.specs.Flaws.{orElse, checked, isEither, isLent, flagFlaw, bytesFlaw, headFlaw, askedFlaw, lentFlaw, usedFlaw, flawOf};
 use commands::Named;
 use commands::Operation;
 use arguments::arguments_fit;
@@ -50,22 +49,13 @@ fn check(right: bool, f: Fault) -> Flaw
     if right { Flaw::Clear } else { Flaw::Wrong(f) }
 }
 
-fn is_variant(s: &[u8]) -> bool
-    ensures { λ r. ⌜ r ≡ isVariant (now (s .entry)) ⌝ }
+fn either(s: &[u8], a: &[u8], b: &[u8]) -> bool
+    ensures { λ r. ⌜ r ≡ isEither (now (a .entry)) (now (b .entry)) (now (s .entry)) ⌝ }
 {
-    if same(s, b"1272") {
+    if same(s, a) {
         return true;
     }
-    same(s, b"1276")
-}
-
-fn is_flag(s: &[u8]) -> bool
-    ensures { λ r. ⌜ r ≡ isFlag (now (s .entry)) ⌝ }
-{
-    if same(s, b"0") {
-        return true;
-    }
-    same(s, b"1")
+    same(s, b)
 }
 
 fn is_lent(s: &[u8]) -> bool
@@ -83,15 +73,21 @@ fn is_lent(s: &[u8]) -> bool
     reading::is_hex(s, Case::Lower)
 }
 
+// A flag in field k + 1.
+fn flag_flaw(line: &[u8], k: usize, number: u8) -> Flaw
+    ensures { λ r. ⌜ r ≡ flagFlaw k number (now (line .entry)) ⌝ }
+{
+    let right = either(field(line, TAB, k), b"0", b"1");
+    check(right, Fault::Flag(number))
+}
+
 // Fields 1 to 4: the board.
 fn head_flaw(line: &[u8]) -> Flaw
     ensures { λ r. ⌜ r ≡ headFlaw (now (line .entry)) ⌝ }
 {
-    let variant = check(is_variant(field(line, TAB, 0)), Fault::Variant);
-    let tcxo = check(is_flag(field(line, TAB, 1)), Fault::Flag(2));
-    let tx_boost = check(is_flag(field(line, TAB, 2)), Fault::Flag(3));
-    let rx_boost = check(is_flag(field(line, TAB, 3)), Fault::Flag(4));
-    variant.or(tcxo.or(tx_boost.or(rx_boost)))
+    let variant = check(either(field(line, TAB, 0), b"1272", b"1276"), Fault::Variant);
+    let boosts = flag_flaw(line, 2, 3).or(flag_flaw(line, 3, 4));
+    variant.or(flag_flaw(line, 1, 2).or(boosts))
 }
 
 // Fields 5 and 6: the operation and its arguments.
@@ -107,15 +103,19 @@ fn asked_flaw(line: &[u8]) -> Flaw
     }
 }
 
+// Bytes in field k + 1.
+fn bytes_flaw(line: &[u8], k: usize, number: u8) -> Flaw
+    ensures { λ r. ⌜ r ≡ bytesFlaw k number (now (line .entry)) ⌝ }
+{
+    check(is_lent(field(line, TAB, k)), Fault::Bytes(number))
+}
+
 // Fields 7 to 10: what is lent.
 fn lent_flaw(line: &[u8]) -> Flaw
     ensures { λ r. ⌜ r ≡ lentFlaw (now (line .entry)) ⌝ }
 {
-    let image = check(is_lent(field(line, TAB, 6)), Fault::Bytes(7));
-    let fifo = check(is_lent(field(line, TAB, 7)), Fault::Bytes(8));
-    let buffer = check(is_lent(field(line, TAB, 8)), Fault::Bytes(9));
-    let log = check(is_lent(field(line, TAB, 9)), Fault::Bytes(10));
-    image.or(fifo.or(buffer.or(log)))
+    let last = bytes_flaw(line, 8, 9).or(bytes_flaw(line, 9, 10));
+    bytes_flaw(line, 6, 7).or(bytes_flaw(line, 7, 8).or(last))
 }
 
 fn used_flaw(line: &[u8]) -> Flaw
