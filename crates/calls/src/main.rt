@@ -1,0 +1,7 @@
+// The whole driver as a filter: each line of standard input is a call, each line of standard output its outcome.
+mod lines;
+mod perform;
+
+fn main() {
+    lines::answer_input();
+}

@@ -1,0 +1,1 @@
+// A call that a line asks, and its outcome's line.
