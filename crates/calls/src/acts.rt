@@ -131,7 +131,14 @@ fn link(args: &[u8]) -> Link {
 }
 
 // Calls that take a record; the last arm is whole programming.
-fn act_record(o: Operation, args: &[u8], board: Board, image: &mut [u8], log: &mut [u8], used: usize) -> Answer {
+fn act_record(
+    o: Operation,
+    args: &[u8],
+    board: Board,
+    image: &mut [u8],
+    log: &mut [u8],
+    used: usize,
+) -> Answer {
     let variant = board.variant;
     match o {
         Operation::SetModulationParams => {
@@ -145,18 +152,39 @@ fn act_record(o: Operation, args: &[u8], board: Board, image: &mut [u8], log: &m
 }
 
 // Calls that take numbers; the last arm is the interrupts.
-fn act_numbers(o: Operation, args: &[u8], board: Board, image: &mut [u8], log: &mut [u8], used: usize) -> Answer {
+fn act_numbers(
+    o: Operation,
+    args: &[u8],
+    board: Board,
+    image: &mut [u8],
+    log: &mut [u8],
+    used: usize,
+) -> Answer {
     match o {
         Operation::InitLora => sx127x::init_lora(image, log, used, board, byte(args, 0)),
         Operation::SetTxRxBufferBaseAddress => {
             sx127x::set_tx_rx_buffer_base_address(image, log, used, count(args, 0), count(args, 1))
         }
         Operation::SetTxPowerAndRampTime => {
-            sx127x::set_tx_power_and_ramp_time(image, log, used, board, power(args, 0), byte(args, 1))
+            sx127x::set_tx_power_and_ramp_time(
+                image,
+                log,
+                used,
+                board,
+                power(args, 0),
+                byte(args, 1),
+            )
         }
         Operation::SetChannel => sx127x::set_channel(image, log, used, hertz(args, 0)),
         Operation::DoRx => {
-            sx127x::do_rx(image, log, used, board.rx_boost, byte(args, 0), word(args, 1))
+            sx127x::do_rx(
+                image,
+                log,
+                used,
+                board.rx_boost,
+                byte(args, 0),
+                word(args, 1),
+            )
         }
         _ => sx127x::set_irq_params(image, log, used, byte(args, 0), byte(args, 1)),
     }
@@ -272,7 +300,10 @@ fn act(
             used,
         },
         Group::Send => tell_done(sx127x::set_payload(image, fifo, log, used, buffer), out),
-        Group::Receive => tell_received(sx127x::get_rx_payload(image, fifo, log, used, buffer), out),
+        Group::Receive => tell_received(
+            sx127x::get_rx_payload(image, fifo, log, used, buffer),
+            out,
+        ),
         Group::Measure => {
             let variant = board.variant;
             tell_status(sx127x::get_rx_packet_status(image, log, used, variant), out)
@@ -323,7 +354,15 @@ fn run(o: Operation, line: &[u8], out: &mut [u8]) -> usize
     let f = lend(field(line, TAB, 7), &mut fifo);
     let b = lend(field(line, TAB, 8), &mut buffer);
     let l = lend(field(line, TAB, 9), &mut log);
-    run_over(o, line, &mut image[..i], &mut fifo[..f], &mut buffer[..b], &mut log[..l], out)
+    run_over(
+        o,
+        line,
+        &mut image[..i],
+        &mut fifo[..f],
+        &mut buffer[..b],
+        &mut log[..l],
+        out,
+    )
 }
 
 // Puts the line that answers a line into out, which has room for the longest.

@@ -6,7 +6,13 @@ use params::mod_params::RadioError;
 use registers::board::Board;
 
 // STAND-IN for link::program(image, log, used, board, link).
-pub fn program(_image: &mut [u8], _log: &mut [u8], used: usize, _board: Board, _link: Link) -> Answer {
+pub fn program(
+    _image: &mut [u8],
+    _log: &mut [u8],
+    used: usize,
+    _board: Board,
+    _link: Link,
+) -> Answer {
     Answer::Refused(RadioError::SPI, used)
 }
 
