@@ -114,7 +114,7 @@ fn framing(args: &[u8]) -> PacketParams {
     }
 }
 
-fn whole(args: &[u8]) -> Link {
+fn link_asked(args: &[u8]) -> Link {
     Link {
         public_network: byte(args, 0),
         spreading_factor: byte(args, 1),
@@ -146,7 +146,7 @@ fn act_record(
         Operation::SetPacketParams => {
             sx127x::set_packet_params(image, log, used, variant, framing(args))
         }
-        _ => link::program(image, log, used, board, whole(args)),
+        _ => link::program(image, log, used, board, link_asked(args)),
     }
 }
 
