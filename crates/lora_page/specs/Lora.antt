@@ -50,17 +50,19 @@ frf-lsb =
 
 -- ---- power
 
--- the power that RegPaConfig shows; boosted SX1272 shows the one of two that is at most 17 dBm
+-- The power that RegPaConfig shows: on the boosted SX1276 in five bits, since the Rust spills into the one above OutputPower;
+-- below 0 dBm as a negative byte. The boosted SX1272 shows the one of two that is at most 17 dBm.
 unfoldable pub shown : Variant → Bool → ℕ → ℤ
-shown Sx1276 true x = pos x -ℤ pos (mask R.PaSelect - 2)
-shown Sx1276 false x = cond (ltb x (mask R.PaSelect)) (pos (get R.OutputPower x)) (signed x)
+shown Sx1276 true x = pos (x % 32 + 2)
+shown Sx1276 false x = cond (ltb x 0xfc) (pos (get R.OutputPower x)) (signed x)
 shown Sx1272 true x = pos (get R.OutputPower x + 2)
 shown Sx1272 false x = pos (get R.OutputPower x) -ℤ pos 1
 
 -- and the one that it shows together with RegPaDac, whose +20 dBm setting puts 3 dB on top
 unfoldable pub shownWith : Variant → Bool → ℕ → ℕ → ℤ
 shownWith Sx1276 boost x d = shown Sx1276 boost x
-shownWith Sx1272 boost x d = shown Sx1272 boost x +ℤ cond (eqb (get (R.PaDac Sx1272) d) 7) (pos 3) (pos 0)
+shownWith Sx1272 true x d = pos (get R.OutputPower x + cond (eqb (get (R.PaDac Sx1272) d) 7) 5 2)
+shownWith Sx1272 false x d = shown Sx1272 false x
 
 abbrev pub powered : ℤ → Link → Link
 powered p t =
@@ -201,3 +203,6 @@ pageOf v boost tcxo = record { Setting = Link; accepted = accepted v; places = p
 
 abbrev pub page : Board → Page
 page b = pageOf (b .variant) (b .«tx_boost») (b .«tcxo_used»)
+
+abbrev pub placesOf : Board → List (Place Link)
+placesOf b = places (b .variant) (b .«tx_boost») (b .«tcxo_used»)

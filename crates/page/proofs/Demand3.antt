@@ -26,7 +26,7 @@ image-set {im} i x hi hx I = record { size = length-set im i x ∙ I .size; byte
     at a (no n) = rw (getD-set-other im i a x 0 n) (I .byte a)
 
 module _ {S : Type 0} where
-  free-tail : (a : ℕ) (p : Place S) (ps : List (Place S)) → T (free a (p ∷ ps)) → (a ≢ p .addr) × T (free a ps)
+  pub free-tail : (a : ℕ) (p : Place S) (ps : List (Place S)) → T (free a (p ∷ ps)) → (a ≢ p .addr) × T (free a ps)
   free-tail a p ps f =
       let h = both (not (eqb a (p .addr))) (free a ps) f in
       ((λ e. T-not (eqb a (p .addr)) (h .0) (subst (λ (x : ℕ). T (eqb a x)) e (eqb-refl a))), h .1)

@@ -24,6 +24,10 @@ pub record Place (S : Type 0) : Type 0 where
   pub bits : S → ℕ
   pub learn : ℕ → S → S
 
+abbrev pub pick : {A : Type 0} → Bool → A → A → A
+pick true a b = a
+pick false a b = b
+
 module _ {S : Type 0} where
   -- the byte that a setting leaves of the old one
   abbrev pub written : Place S → S → ℕ → ℕ
@@ -71,6 +75,14 @@ module _ {S : Type 0} where
   abbrev pub Clear : List (Place S) → S → Type 0
   Clear [] s = Unit {0}
   Clear (p ∷ ps) s = ((bitAnd (p .mask s) (p .bits s) ≡ 0) × (p .mask s + p .bits s < 256)) × Clear ps s
+
+  -- the place of an address, or one that tells nothing
+  abbrev pub nowhere : Place S
+  nowhere = record { addr = 128; mask = λ s. 0; bits = λ s. 0; learn = λ v t. t }
+
+  abbrev pub find : ℕ → List (Place S) → Place S
+  find a [] = nowhere
+  find a (p ∷ ps) = pick (eqb a (p .addr)) p (find a ps)
 
   -- each place has an address of its own, below 128
   abbrev pub free : ℕ → List (Place S) → Bool

@@ -56,7 +56,7 @@ pub fn set_packet_params(
 }
 
 // In dBm: PA_BOOST has 2 to 20, RFO -1 to 14.
-fn clamped_power(p_out: i32, tx_boost: bool) -> i32
+pub fn clamped_power(p_out: i32, tx_boost: bool) -> i32
     ensures { λ r. ⌜ r ≡ clamped Variant.Sx1272 «tx_boost» «p_out» ⌝ }
 {
     if tx_boost {
@@ -67,7 +67,7 @@ fn clamped_power(p_out: i32, tx_boost: bool) -> i32
 }
 
 // The +20 dBm setting adds 3 dB, so its powers count from 5 dBm.
-fn pa_config(txp: i32, tx_boost: bool) -> u8
+pub fn pa_config(txp: i32, tx_boost: bool) -> u8
     requires { ⌜ InRange Variant.Sx1272 «tx_boost» txp ⌝ }
     ensures { λ r. ⌜ r ≡ paConfig Variant.Sx1272 «tx_boost» txp ⌝ }
 {

@@ -1,0 +1,12 @@
+use borrow.Author.Needs.{needs}
+use mathlib.Core.Path.{_≡_, refl, sym, ap, _∙_}
+use native.Mathlib.Omega.{arith}
+use Rattle.lora_page.proofs.Lawful.{same-link}
+use Rattle.guess.proofs.config_1_sx1276.Statement.{statement}
+use Rattle.guess.proofs.config_1_sx1276.Tie as tie
+
+returns : tie.Need-returns
+returns c = c .shaped .ensures ∙ same-link _ _ refl refl (omega arith) refl refl refl (omega arith) refl refl refl
+
+pub config-1-sx1276-spec : {M : Type 1} → statement M
+config-1-sx1276-spec = tie.close (tie.spec (λ c κs. search needs) returns)

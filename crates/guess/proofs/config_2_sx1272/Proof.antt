@@ -1,0 +1,13 @@
+use borrow.Author.Needs.{needs}
+use mathlib.Core.Path.{_≡_, refl, sym, ap, _∙_}
+use native.Mathlib.Omega.{arith}
+use Rattle.lora_page.proofs.Lawful.{same-link}
+use Rattle.guess.proofs.Bytes.{sf-72}
+use Rattle.guess.proofs.config_2_sx1272.Statement.{statement}
+use Rattle.guess.proofs.config_2_sx1272.Tie as tie
+
+returns : tie.Need-returns
+returns c = same-link _ _ refl (sf-72 (c .args .value) (omega arith)) refl refl refl refl refl refl refl refl
+
+pub config-2-sx1272-spec : {M : Type 1} → statement M
+config-2-sx1272-spec = tie.close (tie.spec returns)

@@ -1,0 +1,13 @@
+use borrow.Author.Needs.{needs}
+use mathlib.Core.Path.{_≡_, refl, sym, ap, _∙_}
+use native.Mathlib.Omega.{arith}
+use Rattle.lora_page.proofs.Lawful.{same-link}
+use Rattle.guess.proofs.Bytes.{sf-76, crc-76}
+use Rattle.guess.proofs.config_2_sx1276.Statement.{statement}
+use Rattle.guess.proofs.config_2_sx1276.Tie as tie
+
+returns : tie.Need-returns
+returns c = same-link _ _ refl (sf-76 (c .args .value) (omega arith)) refl refl refl refl refl (crc-76 (c .args .value) (omega arith)) refl refl
+
+pub config-2-sx1276-spec : {M : Type 1} → statement M
+config-2-sx1276-spec = tie.close (tie.spec returns)

@@ -1,0 +1,17 @@
+use borrow.Author.Needs.{needs}
+use Rattle.guess.proofs.frf_lsb.Statement.{statement}
+use Rattle.guess.proofs.frf_lsb.Tie as tie
+
+returns : tie.Need-returns
+returns c = cc
+
+pub frf-lsb-spec : {M : Type 1} → statement M
+frf-lsb-spec =
+    tie.close
+    (tie.spec
+    (λ c κs. search needs)
+    (λ c κs. search needs)
+    (λ c κs. search needs)
+    (λ c κs. search needs)
+    (λ c κs. search needs)
+    returns)

@@ -1,0 +1,10 @@
+use borrow.Author.Needs.{needs}
+use Rattle.guess.proofs.frf_mid.Statement.{statement}
+use Rattle.guess.proofs.frf_mid.Tie as tie
+
+returns : tie.Need-returns
+returns c = cc
+
+pub frf-mid-spec : {M : Type 1} → statement M
+frf-mid-spec =
+    tie.close (tie.spec (λ c κs. search needs) (λ c κs. search needs) (λ c κs. search needs) (λ c κs. search needs) returns)
