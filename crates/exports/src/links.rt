@@ -1,11 +1,14 @@
 // A whole link: programmed, and read back.
 ghost use mathlib.Core.List.{[]};
 ghost use Rattle.operations.specs.Programming.{programLink};
+ghost use Rattle.lora_page.specs.Reading.{readLink};
+ghost use Rattle.results.specs.Results.{Tells};
 ghost use Rattle.telling.specs.Boards.{boardOf};
 ghost use Rattle.telling.specs.Exports.{Exported};
 ghost use Rattle.exports.specs.Records.{linkOf};
 use params::mod_params::Link;
 use telling::answers::done;
+use telling::answers::link;
 use telling::boards::board_of;
 use units::Hertz;
 
@@ -44,6 +47,16 @@ pub extern "C" fn sx127x_program(
         iq_inverted,
         power,
     };
-    let answer = programming::program(image, log, used, board, link);
+    let answer = link::program(image, log, used, board, link);
     done(results, answer) as i32
+}
+
+// Values: public network, spreading factor, bandwidth, coding rate, hertz, preamble, implicit header, CRC, IQ, power.
+#[no_mangle]
+pub extern "C" fn sx127x_read_link(image: &[u8], board: u8, results: &mut [u64]) -> i32
+    ensures { λ r. ⌜ Tells (readLink (boardOf board) (now (image .entry))) 0 (now (results .entry)) r (now (results .exit)) ⌝ }
+{
+    let board = board_of(board);
+    let answer = link::read_link(image, board);
+    link(results, answer) as i32
 }
