@@ -71,12 +71,8 @@ pub fn answer(call: &Call, board: u8, out: &mut Outcome, results: &mut [u64]) ->
         Operation::GetRxPacketStatus => sx127x::get_rx_packet_status(image, log, used, board, results),
         Operation::DoCad => sx127x::do_cad(image, log, used, board, results),
         Operation::SetIrqParams => sx127x::set_irq_params(image, log, used, byte(0), byte(1), results),
-        Operation::ProcessIrqEvent => {
-            sx127x::process_irq_event(image, log, used, byte(0), byte(1), byte(2), results)
-        }
-        Operation::SetTxContinuousWaveMode => {
-            sx127x::set_tx_continuous_wave_mode(image, log, used, board, results)
-        }
+        Operation::ProcessIrqEvent => sx127x::process_irq_event(image, log, used, byte(0), byte(1), byte(2), results),
+        Operation::SetTxContinuousWaveMode => sx127x::set_tx_continuous_wave_mode(image, log, used, board, results),
         Operation::Program => programmed(image, log, used, board, arguments, results),
         Operation::ReadLink => sx127x::read_link(image, board, results),
     }
@@ -94,7 +90,5 @@ fn created_packet(a: &Numbers, results: &mut [u64]) -> i32 {
 fn programmed(image: &mut [u8], log: &mut [u8], used: usize, board: u8, a: &Numbers, results: &mut [u64]) -> i32 {
     let (public, sf, bw, cr, hz) = (a[0] as u8, a[1] as u8, a[2] as u8, a[3] as u8, a[4] as u32);
     let (preamble, header, crc, iq, power) = (a[5] as u16, a[6] as u8, a[7] as u8, a[8] as u8, a[9] as i32);
-    sx127x::program(
-        image, log, used, board, public, sf, bw, cr, hz, preamble, header, crc, iq, power, results,
-    )
+    sx127x::program(image, log, used, board, public, sf, bw, cr, hz, preamble, header, crc, iq, power, results)
 }

@@ -113,7 +113,9 @@ fn main() {
         let calls = inputs(&mut maker, operation, None);
         row(name, calls);
     }
-    for (name, operation) in [("255 bytes sent", Operation::SetPayload), ("255 bytes received", Operation::GetRxPayload)] {
+    for (name, operation) in
+        [("255 bytes sent", Operation::SetPayload), ("255 bytes received", Operation::GetRxPayload)]
+    {
         let calls = inputs(&mut maker, operation, Some(255));
         row(name, calls);
     }

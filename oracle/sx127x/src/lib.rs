@@ -3,6 +3,8 @@
 //! A call answers 0 or a refusal's number. Into `results` it puts the bytes of the log that are used afterwards and then
 //! the answer's values, each as a word of 64 bits (two's complement), as many as there are places for.
 #![no_std]
+// A call of the driver has as many as it has.
+#![allow(clippy::too_many_arguments)]
 
 macro_rules! pointer {
     (shared) => { *const u8 };
@@ -10,13 +12,21 @@ macro_rules! pointer {
 }
 
 macro_rules! slice {
-    (shared) => { &[u8] };
-    (lent) => { &mut [u8] };
+    (shared) => {
+        &[u8]
+    };
+    (lent) => {
+        &mut [u8]
+    };
 }
 
 macro_rules! start {
-    (shared, $slice:ident) => { $slice.as_ptr() };
-    (lent, $slice:ident) => { $slice.as_mut_ptr() };
+    (shared, $slice:ident) => {
+        $slice.as_ptr()
+    };
+    (lent, $slice:ident) => {
+        $slice.as_mut_ptr()
+    };
 }
 
 /// A call's slices, its numbers, the slice after them if there is one; `results` come last.
