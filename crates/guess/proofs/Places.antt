@@ -11,53 +11,54 @@ use borrow.Author.Tests.{eqb-true}
 use Rattle.sheets.specs.declared.Variant.{Variant}
 use Rattle.sheets.specs.declared.Variant.the-variants.{Sx1272, Sx1276}
 use Rattle.params.specs.declared.mod_params.Link.{Link}
+use Rattle.registers.specs.declared.board.Board.{Board}
 use Rattle.page.specs.Page.{Place, improved, find, pick}
 use Rattle.lora_page.specs.Lora as L
-use Rattle.lora_page.specs.Lora.{places}
+use Rattle.lora_page.specs.Lora.{places, placesOf}
 use Rattle.lora_page.proofs.Acceptance.{_▸_}
 
 -- ---- registers that tell something
 
-module _ (boost tcxo : Bool) where
-  pub at-06 : (w : Variant) → find 0x06 (places w boost tcxo) ≡ L.frf-msb
-  at-06 Sx1272 = refl
-  at-06 Sx1276 = refl
+-- a place that is found on each variant is found on every board
+module _ (a : ℕ) (p : Variant → Bool → Place Link)
+    (on-72 : (boost tcxo : Bool) → find a (places Sx1272 boost tcxo) ≡ p Sx1272 boost)
+    (on-76 : (boost tcxo : Bool) → find a (places Sx1276 boost tcxo) ≡ p Sx1276 boost) where
+  by : (v : Variant) (boost tcxo : Bool) → find a (places v boost tcxo) ≡ p v boost
+  by Sx1272 = on-72
+  by Sx1276 = on-76
 
-  pub at-07 : (w : Variant) → find 0x07 (places w boost tcxo) ≡ L.frf-mid
-  at-07 Sx1272 = refl
-  at-07 Sx1276 = refl
+  found-at : (b : Board) → find a (placesOf b) ≡ p (b .variant) (b .«tx_boost»)
+  found-at b = by (b .variant) (b .«tx_boost») (b .«tcxo_used»)
 
-  pub at-08 : (w : Variant) → find 0x08 (places w boost tcxo) ≡ L.frf-lsb
-  at-08 Sx1272 = refl
-  at-08 Sx1276 = refl
+pub at-06 : (b : Board) → find 0x06 (placesOf b) ≡ L.frf-msb
+at-06 = found-at 0x06 (λ v boost. L.frf-msb) (λ boost tcxo. refl) (λ boost tcxo. refl)
 
-  pub at-09 : (w : Variant) → find 0x09 (places w boost tcxo) ≡ L.pa-config w boost
-  at-09 Sx1272 = refl
-  at-09 Sx1276 = refl
+pub at-07 : (b : Board) → find 0x07 (placesOf b) ≡ L.frf-mid
+at-07 = found-at 0x07 (λ v boost. L.frf-mid) (λ boost tcxo. refl) (λ boost tcxo. refl)
 
-  pub at-1d : (w : Variant) → find 0x1d (places w boost tcxo) ≡ L.config-1 w
-  at-1d Sx1272 = refl
-  at-1d Sx1276 = refl
+pub at-08 : (b : Board) → find 0x08 (placesOf b) ≡ L.frf-lsb
+at-08 = found-at 0x08 (λ v boost. L.frf-lsb) (λ boost tcxo. refl) (λ boost tcxo. refl)
 
-  pub at-1e : (w : Variant) → find 0x1e (places w boost tcxo) ≡ L.config-2 w
-  at-1e Sx1272 = refl
-  at-1e Sx1276 = refl
+pub at-09 : (b : Board) → find 0x09 (placesOf b) ≡ L.pa-config (b .variant) (b .«tx_boost»)
+at-09 = found-at 0x09 (λ v boost. L.pa-config v boost) (λ boost tcxo. refl) (λ boost tcxo. refl)
 
-  pub at-20 : (w : Variant) → find 0x20 (places w boost tcxo) ≡ L.preamble-msb
-  at-20 Sx1272 = refl
-  at-20 Sx1276 = refl
+pub at-1d : (b : Board) → find 0x1d (placesOf b) ≡ L.config-1 (b .variant)
+at-1d = found-at 0x1d (λ v boost. L.config-1 v) (λ boost tcxo. refl) (λ boost tcxo. refl)
 
-  pub at-21 : (w : Variant) → find 0x21 (places w boost tcxo) ≡ L.preamble-lsb
-  at-21 Sx1272 = refl
-  at-21 Sx1276 = refl
+pub at-1e : (b : Board) → find 0x1e (placesOf b) ≡ L.config-2 (b .variant)
+at-1e = found-at 0x1e (λ v boost. L.config-2 v) (λ boost tcxo. refl) (λ boost tcxo. refl)
 
-  pub at-33 : (w : Variant) → find 0x33 (places w boost tcxo) ≡ L.invert-iq
-  at-33 Sx1272 = refl
-  at-33 Sx1276 = refl
+pub at-20 : (b : Board) → find 0x20 (placesOf b) ≡ L.preamble-msb
+at-20 = found-at 0x20 (λ v boost. L.preamble-msb) (λ boost tcxo. refl) (λ boost tcxo. refl)
 
-  pub at-39 : (w : Variant) → find 0x39 (places w boost tcxo) ≡ L.sync-word
-  at-39 Sx1272 = refl
-  at-39 Sx1276 = refl
+pub at-21 : (b : Board) → find 0x21 (placesOf b) ≡ L.preamble-lsb
+at-21 = found-at 0x21 (λ v boost. L.preamble-lsb) (λ boost tcxo. refl) (λ boost tcxo. refl)
+
+pub at-33 : (b : Board) → find 0x33 (placesOf b) ≡ L.invert-iq
+at-33 = found-at 0x33 (λ v boost. L.invert-iq) (λ boost tcxo. refl) (λ boost tcxo. refl)
+
+pub at-39 : (b : Board) → find 0x39 (placesOf b) ≡ L.sync-word
+at-39 = found-at 0x39 (λ v boost. L.sync-word) (λ boost tcxo. refl) (λ boost tcxo. refl)
 
 -- the first modem register is written whole on either variant
 pub told-1d : (w : Variant) (v : ℕ) (t : Link) → improved (L.config-1 w) v t ≡ L.config-1 w .learn v t

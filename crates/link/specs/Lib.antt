@@ -1,1 +1,2 @@
 pub mod Programmed
+pub mod OneLink

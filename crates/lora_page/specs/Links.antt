@@ -1,5 +1,4 @@
 -- Links: which of them a board accepts, and when two are one.
-use mathlib.Core.Path.{_≡_}
 use mathlib.Core.Bool.{Bool, true, false, _&&_}
 use Prim.Native.Nat.{ℕ}
 use lib.Dec.{T, ltb}
@@ -43,16 +42,3 @@ abbrev pub plain : Variant → Bool → Link → Link
 plain v boost l =
     link (l .«public_network») (l .«spreading_factor») (l .bandwidth) (l .«coding_rate») (lowest (steps (l .frequency .0))) (l .«preamble_length»)
     (l .«implicit_header») (l .«crc_on») (l .«iq_inverted») (clamped v boost (l .power))
-
--- One link: the same but for the frequency within a step and the power beyond the clamp.
-pub record OneLink (b : Board) (s t : Link) : Type 0 where
-  pub sync-word : s .«public_network» ≡ t .«public_network»
-  pub spreading-factor : s .«spreading_factor» ≡ t .«spreading_factor»
-  pub bandwidth : s .bandwidth ≡ t .bandwidth
-  pub coding-rate : s .«coding_rate» ≡ t .«coding_rate»
-  pub header : s .«implicit_header» ≡ t .«implicit_header»
-  pub crc : s .«crc_on» ≡ t .«crc_on»
-  pub iq : s .«iq_inverted» ≡ t .«iq_inverted»
-  pub preamble : s .«preamble_length» ≡ t .«preamble_length»
-  pub frequency-step : steps (s .frequency .0) ≡ steps (t .frequency .0)
-  pub power : clamped (b .variant) (b .«tx_boost») (s .power) ≡ clamped (b .variant) (b .«tx_boost») (t .power)

@@ -78,14 +78,12 @@ fn fits(image: &[u8], board: Board, guess: Link, n: usize) -> bool
     }
 }
 
-fn read_registers(image: &[u8], board: Board) -> LinkAnswer
-    requires { ⌜ length (now image) ≡ 128 ⌝ }
-    ensures { λ r. ⌜ tellsLink r ≡ tellsReading (read (page board) (now (image .entry))) ⌝ }
+// The first guess, before any register is looked at.
+fn blank() -> Link
+    ensures { λ r. ⌜ r ≡ blank ⌝ }
 {
-    let variant = board.variant;
-    let n = registers(board);
     let frequency = Hertz(0);
-    let mut guess = Link {
+    Link {
         public_network: 0,
         spreading_factor: 7,
         bandwidth: 7,
@@ -96,7 +94,17 @@ fn read_registers(image: &[u8], board: Board) -> LinkAnswer
         crc_on: 0,
         iq_inverted: 0,
         power: 0,
-    };
+    }
+}
+
+fn read_registers(image: &[u8], board: Board) -> LinkAnswer
+    requires { ⌜ length (now image) ≡ 128 ⌝ }
+    ensures { λ r. ⌜ tellsLink r ≡ tellsReading (read (page board) (now (image .entry))) ⌝ }
+{
+    let variant = board.variant;
+    let n = registers(board);
+    let first = blank();
+    let mut guess = first;
     let mut i = 0;
     while i < n {
         let register = variant.reader_order(i);

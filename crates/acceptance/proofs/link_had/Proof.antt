@@ -1,3 +1,5 @@
+-- `acceptance::link_had` meets its contract: the verdicts follow each other.
+-- Assumes nothing.
 use borrow.Author.Needs.{needs}
 use Rattle.acceptance.proofs.link_had.Statement.{statement}
 use Rattle.acceptance.proofs.link_had.Tie as tie

@@ -1,3 +1,5 @@
+-- `acceptance::link_named` meets its contract: the verdicts follow each other.
+-- Assumes nothing.
 use borrow.Author.Needs.{needs}
 use Rattle.acceptance.proofs.link_named.Statement.{statement}
 use Rattle.acceptance.proofs.link_named.Tie as tie

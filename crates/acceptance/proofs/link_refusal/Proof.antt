@@ -1,3 +1,5 @@
+-- `acceptance::link_refusal` meets its contract: the two parts are the whole.
+-- Assumes nothing.
 use borrow.Author.Needs.{needs}
 use Rattle.acceptance.proofs.Whole.{whole}
 use Rattle.acceptance.proofs.link_refusal.Statement.{statement}

@@ -1,3 +1,5 @@
+-- `guess::config_1` meets its contract: each variant has its own first modem register.
+-- Assumes nothing.
 use borrow.Author.Needs.{needs}
 use Rattle.guess.proofs.config_1.Statement.{statement}
 use Rattle.guess.proofs.config_1.Tie as tie

@@ -1,3 +1,5 @@
+-- `guess::config_1_sx1272` meets its contract: the fields of the byte.
+-- Assumes nothing.
 use borrow.Author.Needs.{needs}
 use mathlib.Core.Path.{_≡_, refl, sym, ap, _∙_}
 use native.Mathlib.Omega.{arith}

@@ -1,3 +1,5 @@
+-- `guess::config_2` meets its contract: each variant has its own second modem register.
+-- Assumes nothing.
 use borrow.Author.Needs.{needs}
 use Rattle.guess.proofs.config_2.Statement.{statement}
 use Rattle.guess.proofs.config_2.Tie as tie

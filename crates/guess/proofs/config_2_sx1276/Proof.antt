@@ -1,3 +1,5 @@
+-- `guess::config_2_sx1276` meets its contract: the bits beside those that stay.
+-- Assumes nothing.
 use borrow.Author.Needs.{needs}
 use mathlib.Core.Path.{_≡_, refl, sym, ap, _∙_}
 use native.Mathlib.Omega.{arith}

@@ -1,3 +1,5 @@
+-- `guess::frf_lsb` meets its contract: the count with its low byte.
+-- Assumes nothing.
 use borrow.Author.Needs.{needs}
 use Rattle.guess.proofs.frf_lsb.Statement.{statement}
 use Rattle.guess.proofs.frf_lsb.Tie as tie

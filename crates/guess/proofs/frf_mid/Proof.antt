@@ -1,3 +1,5 @@
+-- `guess::frf_mid` meets its contract: the count with its middle byte.
+-- Assumes nothing.
 use borrow.Author.Needs.{needs}
 use Rattle.guess.proofs.frf_mid.Statement.{statement}
 use Rattle.guess.proofs.frf_mid.Tie as tie

@@ -1,3 +1,5 @@
+-- `guess::frf_msb` meets its contract: the count with its high byte.
+-- Assumes nothing.
 use borrow.Author.Needs.{needs}
 use Rattle.guess.proofs.frf_msb.Statement.{statement}
 use Rattle.guess.proofs.frf_msb.Tie as tie

@@ -1,3 +1,5 @@
+-- `guess::pa_config` meets its contract: the power that the byte shows.
+-- Assumes nothing.
 use borrow.Author.Needs.{needs}
 use mathlib.Core.Path.{_≡_, refl, sym, ap, _∙_}
 use native.Mathlib.Omega.{arith}

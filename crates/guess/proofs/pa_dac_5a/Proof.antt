@@ -1,3 +1,5 @@
+-- `guess::pa_dac_5a` meets its contract: only the SX1272 has a place there.
+-- Assumes nothing.
 use borrow.Author.Needs.{needs}
 use mathlib.Core.Path.{sym, _∙_}
 use Rattle.guess.proofs.Places.{told-5a-72, told-5a-76}

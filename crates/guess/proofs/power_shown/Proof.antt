@@ -1,3 +1,5 @@
+-- `guess::power_shown` meets its contract: by variant and output.
+-- Assumes nothing.
 use borrow.Author.Needs.{needs}
 use native.Mathlib.Omega.{arith}
 use mathlib.Core.Bool.{true, false}

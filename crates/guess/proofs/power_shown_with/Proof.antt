@@ -1,3 +1,5 @@
+-- `guess::power_shown_with` meets its contract: by output and setting.
+-- Assumes nothing.
 use borrow.Author.Needs.{needs}
 use native.Mathlib.Omega.{arith}
 use mathlib.Core.Bool.{false}

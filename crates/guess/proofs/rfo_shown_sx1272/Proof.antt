@@ -1,3 +1,5 @@
+-- `guess::rfo_shown_sx1272` meets its contract: by the count.
+-- Assumes nothing.
 use borrow.Author.Needs.{needs}
 use mathlib.Core.Path.{_≡_, refl, sym, ap, _∙_}
 use native.Mathlib.Omega.{arith}

@@ -1,3 +1,5 @@
+-- `guess::rfo_shown_sx1276` meets its contract: by the byte.
+-- Assumes nothing.
 use borrow.Author.Needs.{needs}
 use mathlib.Core.Path.{refl}
 use mathlib.Core.Bool.{false}

@@ -1,3 +1,5 @@
+-- `guess::tuned` meets its contract: the lowest frequency of the count.
+-- Assumes nothing.
 use borrow.Author.Needs.{needs}
 use mathlib.Core.Path.{_≡_, refl, sym, ap, _∙_}
 use Rattle.lora_page.proofs.Lawful.{same-link}

@@ -32,29 +32,29 @@ image-is : (c : tie.After-shared-slice-known Inv-loop μ-loop) → Image (now (c
 image-is c = record { size = c .before .pre; byte = λ a. c .shared-slice-known .given a .fits }
 
 loop-holds : tie.Need-loop-holds Inv-loop μ-loop
-loop-holds c = let a = c .before .before .args in (omega arith, refl, begins (a .board) (now (a .image)))
+loop-holds c = let a = c .before .before .before .args in (omega arith, c .blank .ensures, begins (a .board) (now (a .image)))
 
 reader-order-requires : tie.Need-reader-order-requires Inv-loop μ-loop
 reader-order-requires c κs =
-    let r = c .before .before in
+    let r = c .before .before .before in
     let b = r .before .before .args .board in
     omega (arith, r .registers .ensures, order-le (b .variant) (b .«tcxo_used»))
 
 shared-slice-read-learn : tie.Need-shared-slice-read-learn Inv-loop μ-loop
 shared-slice-read-learn c =
     let o = c .before in
-    let r = o .before .before .before in
+    let r = o .before .before .before .before in
     let b = r .before .before .args .board in
     let bound = order-lt (b .variant) (o .before .before .loop .i) (omega (arith, r .registers .ensures, order-le (b .variant) (b .«tcxo_used»))) in
     omega (arith, o .reader-order .ensures, bound)
 
 -- the guess after one register more
-improved-guess : (c : tie.After-learn Inv-loop μ-loop) → let l = c .before .before .before .before in let a = l .before .before .before .args in
+improved-guess : (c : tie.After-learn Inv-loop μ-loop) → let l = c .before .before .before .before in let a = l .before .before .before .before .args in
     c .learn .result ≡ guessed (first (page (a .board)) (l .loop .i + 1)) (now (a .image))
 improved-guess c =
     let o = c .before .before in
     let l = o .before .before in
-    let r = l .before in
+    let r = l .before .before in
     let a = r .before .before .args in
     let next = next-guess (a .board) (l .loop .i) (omega (arith, r .registers .ensures)) (now (a .image)) (l .loop .guess) (l .loop .inv .1) in
     rw (add-one (l .loop .i)) ((rw (o .reader-order .ensures) at (c .learn .ensures)) ∙ next)
@@ -63,7 +63,7 @@ returns : tie.Need-returns Inv-loop μ-loop
 returns c =
     let g = c .before .before in
     let l = g .before .before .before .before in
-    let r = l .before in
+    let r = l .before .before in
     let a = r .before .before .args in
     rw (refuses (a .board) (l .loop .i + 1) (now (a .image)) (g .learn .result) (image-is (r .before)) (omega (arith, r .registers .ensures)) (improved-guess g) (sym (c .before .fits2 .ensures) ∙ not-true _ (c .if1 .taken))) refl
 
@@ -71,7 +71,7 @@ loop-again : tie.Need-loop-again Inv-loop μ-loop
 loop-again c =
     let g = c .before .before in
     let l = g .before .before .before .before in
-    let r = l .before in
+    let r = l .before .before in
     let a = r .before .before .args in (
       omega arith,
       improved-guess g,
@@ -82,7 +82,7 @@ loop-again c =
 returns-2 : tie.Need-returns-2 Inv-loop μ-loop
 returns-2 c =
     let l = c .before in
-    let r = l .before in
+    let r = l .before .before in
     let a = r .before .before .args in
     rw (finds (a .board) (l .loop .i) (now (a .image)) (l .loop .guess) (omega (arith, r .registers .ensures)) (l .loop .inv .1) (l .loop .inv .2)) refl
 
@@ -92,6 +92,7 @@ read-registers-spec =
     (tie.spec
     Inv-loop
     μ-loop
+    (λ c κs. search needs)
     (λ c κs. search needs)
     loop-holds
     reader-order-requires

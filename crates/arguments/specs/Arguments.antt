@@ -1,0 +1,56 @@
+-- Arguments: whether a text has an operation's, and what they are.
+use mathlib.Core.Bool.{Bool, true, false, cond, _&&_}
+use mathlib.Core.List.{List, [], _∷_}
+use Prim.Native.Nat.{ℕ, suc}
+use lib.Dec.{eqb}
+use lib.IntN.{ℤ, pos}
+use lib.ListN.{length}
+use Rattle.reading.specs.declared.decimal.Number.{Number}
+use Rattle.reading.specs.declared.decimal.Number.the-variants as number
+use Rattle.reading.specs.declared.decimal.Signed.{Signed}
+use Rattle.reading.specs.declared.decimal.Signed.the-variants as signed
+use Rattle.reading.specs.Decimal.{numberOf, signedOf}
+use Rattle.reading.specs.Fields.{countOf, fieldAt}
+use Rattle.reading.specs.Words.{ascii, alike}
+use Rattle.commands.specs.Operations.{power}
+
+abbrev pub isNumber : Number → Bool
+isNumber (number.Is n) = true
+isNumber number.NotDigits = false
+isNumber number.Over = false
+
+abbrev pub isSigned : Signed → Bool
+isSigned (signed.Is z) = true
+isSigned signed.NotDigits = false
+isSigned signed.Over = false
+
+-- a text says a number of a kind
+unfoldable pub ofKind : ℕ → List ℕ → Bool
+ofKind most s = cond (eqb most power) (isSigned (signedOf s)) (isNumber (numberOf most s))
+
+-- the arguments from number i on are of the kinds
+abbrev pub fitFrom : List ℕ → ℕ → List ℕ → Bool
+fitFrom s i [] = true
+fitFrom s i (k ∷ ks) = ofKind k (fieldAt 32 i s) && fitFrom s (suc i) ks
+
+-- parted by one space, as many as there are kinds; `-` for none
+unfoldable pub fit : List ℕ → List ℕ → Bool
+fit [] s = alike s (ascii "-")
+fit (k ∷ ks) s = eqb (countOf 32 s) (length ks) && fitFrom s 0 (k ∷ ks)
+
+-- argument i, 0 where there is none of the kind
+abbrev pub numberOr0 : Number → ℕ
+numberOr0 (number.Is n) = n
+numberOr0 number.NotDigits = 0
+numberOr0 number.Over = 0
+
+abbrev pub signedOr0 : Signed → ℤ
+signedOr0 (signed.Is z) = z
+signedOr0 signed.NotDigits = pos 0
+signedOr0 signed.Over = pos 0
+
+unfoldable pub argument : ℕ → List ℕ → ℕ → ℕ
+argument most s i = numberOr0 (numberOf most (fieldAt 32 i s))
+
+unfoldable pub signedArgument : List ℕ → ℕ → ℤ
+signedArgument s i = signedOr0 (signedOf (fieldAt 32 i s))

@@ -1,0 +1,8 @@
+// The whole driver as a filter: each line of standard input is a call, each line of standard output its outcome.
+mod acts;
+mod lines;
+mod links;
+
+fn main() {
+    lines::answer_input();
+}

@@ -1,0 +1,53 @@
+-- What is wrong with a line, in words.
+use mathlib.Core.List.{List, _++_}
+use Prim.Native.Nat.{ℕ}
+use Rattle.reading.specs.Words.{ascii}
+use Rattle.printing.specs.Numbers.{decimal}
+use Rattle.commands.specs.declared.Operation.{Operation}
+use Rattle.commands.specs.declared.Operation.the-variants.{InitLora, CreateModulationParams, CreatePacketParams, Reset, SetStandby, SetSleep, SetTxRxBufferBaseAddress, SetTxPowerAndRampTime, SetModulationParams, SetPacketParams, SetChannel, SetPayload, DoTx, DoRx, GetRxPayload, GetRxPacketStatus, DoCad, SetIrqParams, ProcessIrqEvent, SetTxContinuousWaveMode, Program, ReadLink}
+use Rattle.commands.specs.Operations.{arguments}
+use Rattle.requests.specs.declared.Fault.{Fault}
+use Rattle.requests.specs.declared.Fault.the-variants.{LongLine, FieldCount, Variant, Flag, UnknownOperation, Arguments, Bytes, Used}
+
+-- an operation's row in the table of all that may be wanted
+abbrev pub row : Operation → ℕ
+row InitLora = 1
+row CreateModulationParams = 2
+row CreatePacketParams = 3
+row Reset = 0
+row SetStandby = 0
+row SetSleep = 0
+row SetTxRxBufferBaseAddress = 4
+row SetTxPowerAndRampTime = 5
+row SetModulationParams = 6
+row SetPacketParams = 7
+row SetChannel = 8
+row SetPayload = 0
+row DoTx = 0
+row DoRx = 9
+row GetRxPayload = 0
+row GetRxPacketStatus = 0
+row DoCad = 0
+row SetIrqParams = 10
+row ProcessIrqEvent = 11
+row SetTxContinuousWaveMode = 0
+row Program = 12
+row ReadLink = 0
+
+abbrev pub table : List ℕ
+table =
+    ascii
+    "-\tpublic\tsf bw cr hz\tpreamble implicit payload_length crc iq sf\ttx rx\tpower is_tx_prep\tsf bw cr optimize\tpreamble implicit payload_length crc iq\thz\trxmode n\tmode rxmode\tmode rxmode clear\tpublic sf bw cr hz preamble implicit crc iq power"
+
+abbrev pub wanted : Operation → List ℕ
+wanted o = ascii "field 6: expected arguments: " ++ arguments o
+
+abbrev pub words : Fault → List ℕ
+words LongLine = ascii "line over 16384 bytes"
+words FieldCount = ascii "expected 11 fields"
+words Variant = ascii "field 1: expected 1272 or 1276"
+words (Flag n) = ascii "field " ++ (decimal n ++ ascii ": expected 0 or 1")
+words UnknownOperation = ascii "field 5: unknown operation"
+words (Arguments o) = wanted o
+words (Bytes n) = ascii "field " ++ (decimal n ++ ascii ": expected hex of up to 1024 bytes")
+words Used = ascii "field 11: expected a decimal number"

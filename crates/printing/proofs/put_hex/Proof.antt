@@ -1,0 +1,108 @@
+use borrow.Author.Needs.{needs}
+use mathlib.Core.Path.{_≡_, refl, sym, ap, _∙_}
+use mathlib.Core.List.{_∷_, _++_, append-assoc}
+use Prim.Native.Nat.{_+_, _*_, _-_, _≤_, _<_}
+use native.Mathlib.Omega.{arith}
+use denote.Ref.{now}
+use lib.ListN.{length, take, drop, set, length-set, drop-of-length-le}
+use Rattle.reading.proofs.Pairs.{stored, behind, whole}
+use Rattle.printing.proofs.Digits.{byte-more, two-each}
+use Rattle.printing.proofs.Appending.{appended}
+use Rattle.printing.specs.Numbers.{hexFrom}
+use Rattle.printing.proofs.put_hex.Statement.{statement}
+use Rattle.printing.proofs.put_hex.Tie as tie
+use Rattle.printing.proofs.put_hex.Reads as reads
+use Rattle.printing.proofs.put_hex.Lts as lts
+use Rattle.printing.proofs.hex_digit.Reads as hex-digit-reads
+use Rattle.printing.proofs.ten.Reads as ten-reads
+
+abbrev Inv-loop : tie.InvT-loop
+Inv-loop s out₀ at a i₀ o₀ out i o =
+    (i ≤ length s) × (o ≡ at + 2 * i) × (length out ≡ length out₀) × (take o out ++ hexFrom a (drop i s) ≡ take at out₀ ++ hexFrom a s) × (drop o out ≡ drop o out₀) × (a ≤ 97)
+
+abbrev μ-loop : tie.MeasureT-loop
+μ-loop s out₀ at a i₀ o₀ out i o = length s - i
+
+ten-requires : tie.Need-ten-requires Inv-loop μ-loop
+ten-requires c κs = search needs
+
+loop-holds : tie.Need-loop-holds Inv-loop μ-loop
+loop-holds c = search needs
+
+shared-slice-read-b : tie.Need-shared-slice-read-b Inv-loop μ-loop
+shared-slice-read-b c = search needs
+
+hex-digit-requires : tie.Need-hex-digit-requires Inv-loop μ-loop
+hex-digit-requires c κs = let k = c .before in (omega (arith, c .shared-slice-known2 .given (k .before .loop .i)), k .before .loop .inv .5)
+
+slice-write-out : tie.Need-slice-write-out Inv-loop μ-loop
+slice-write-out c = search needs
+
+hex-digit-requires-2 : tie.Need-hex-digit-requires-2 Inv-loop μ-loop
+hex-digit-requires-2 c κs = search needs
+
+add-out : tie.Need-add-out Inv-loop μ-loop
+add-out c = search needs
+
+slice-write-out-2 : tie.Need-slice-write-out-2 Inv-loop μ-loop
+slice-write-out-2 c = simp length-set (omega arith)
+
+add-o : tie.Need-add-o Inv-loop μ-loop
+add-o c = search needs
+
+add-i : tie.Need-add-i Inv-loop μ-loop
+add-i c = search needs
+
+loop-less : tie.Need-loop-less Inv-loop μ-loop
+loop-less c = search needs
+
+loop-again : tie.Need-loop-again Inv-loop μ-loop
+loop-again c =
+    let k = c .before .before .before in
+    let l = k .before .loop in
+    let a = k .before .before .before .before .before .args in
+    let t = k .before .before .ten .result in
+    let s = now (a .s) in
+    let h : l .o < length (l .out) = omega arith in
+    let x = c .before .hex-digit .result in
+    let y = c .hex-digit2 .result in
+    let m = byte-more t s (l .i) (k .loop-test .taken) in
+    let n : l .o + 2 ≡ l .o + 1 + 1 = omega arith in
+    let two = stored (set (l .out) (l .o) x) (l .o + 1) y (hexFrom t (drop (l .i + 1) s)) (simp length-set (omega arith)) ∙ stored (l .out) (l .o) x (y ∷ hexFrom t (drop (l .i + 1) s)) h in
+    (omega arith, omega arith, simp length-set (l .inv .2), rw n (two ∙ rw (c .before .hex-digit .ensures, c .hex-digit2 .ensures, ← m) (l .inv .3)), rw n (behind _ (now (a .out)) (l .o + 1) y (behind _ (now (a .out)) (l .o) x (l .inv .4))), l .inv .5)
+
+same-length : tie.Need-same-length Inv-loop μ-loop
+same-length c = search needs
+
+returns : tie.Need-returns Inv-loop μ-loop
+returns c =
+    let l = c .before .loop in
+    let a = c .before .before .before .before .before .args in
+    let t = c .before .before .ten in
+    let s = now (a .s) in
+    let n = two-each (t .result) s in
+    let e = rw (drop-of-length-le s (c .loop-test .left)) at (l .inv .3) in
+    let w = whole (l .out) (now (a .out)) (take (a .at) (now (a .out)) ++ hexFrom (t .result) s) (l .o) e (l .inv .4) in
+    let d : l .o ≡ a .at + length (hexFrom (t .result) s) = omega arith in
+    (rw (← t .ensures .0) (appended (a .at) (now (a .out)) (hexFrom (t .result) s) (omega arith) (l .o) (l .out) d (rw (← d) (w ∙ append-assoc (take (a .at) (now (a .out))) (hexFrom (t .result) s) (drop (l .o) (now (a .out)))))), omega arith)
+
+pub put-hex-spec : {M : Type 1} → statement M
+put-hex-spec =
+    tie.close
+    (tie.spec
+    Inv-loop
+    μ-loop
+    ten-requires
+    loop-holds
+    shared-slice-read-b
+    hex-digit-requires
+    slice-write-out
+    hex-digit-requires-2
+    add-out
+    slice-write-out-2
+    add-o
+    add-i
+    loop-less
+    loop-again
+    same-length
+    returns)

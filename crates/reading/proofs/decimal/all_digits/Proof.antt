@@ -1,0 +1,77 @@
+use borrow.Author.Needs.{needs}
+use mathlib.Core.Path.{_≡_, refl, sym, _∙_}
+use Prim.Native.Nat.{_-_, _≤_}
+use native.Mathlib.Omega.{arith}
+use denote.Ref.{now}
+use lib.ListN.{length, drop, drop-of-length-le}
+use borrow.Author.Tests.{le-ltb, lt-ltb}
+use Rattle.reading.specs.Decimal.{isDigit, all, digits}
+use Rattle.reading.proofs.Tests.{passes, fails}
+use Rattle.reading.proofs.decimal.all_digits.Statement.{statement}
+use Rattle.reading.proofs.decimal.all_digits.Tie as tie
+use Rattle.reading.proofs.decimal.all_digits.Reads as reads
+use Rattle.reading.proofs.decimal.all_digits.Lts as lts
+use Rattle.reading.proofs.decimal.is_digit.Reads as is-digit-reads
+
+abbrev Inv-loop : tie.InvT-loop
+Inv-loop s i₀ i = (i ≤ length s) × (all isDigit (drop i s) ≡ all isDigit s)
+
+abbrev μ-loop : tie.MeasureT-loop
+μ-loop s i₀ i = length s - i
+
+returns : tie.Need-returns Inv-loop μ-loop
+unfolding digits
+returns c = rw (le-ltb 0 (length (now (c .before .before .args .s))) (omega arith))
+
+loop-holds : tie.Need-loop-holds Inv-loop μ-loop
+loop-holds c = search needs
+
+shared-slice-read-is-digit : tie.Need-shared-slice-read-is-digit Inv-loop μ-loop
+shared-slice-read-is-digit c = search needs
+
+is-digit-requires : tie.Need-is-digit-requires Inv-loop μ-loop
+is-digit-requires c κs = search needs
+
+add-i : tie.Need-add-i Inv-loop μ-loop
+add-i c = search needs
+
+loop-less : tie.Need-loop-less Inv-loop μ-loop
+loop-less c = search needs
+
+loop-again : tie.Need-loop-again Inv-loop μ-loop
+loop-again c =
+    let d = c .before in
+    let k = d .before .before in
+    let a = k .before .before .before .before .args in
+    (omega arith, sym (passes isDigit (now (a .s)) (k .before .loop .i) (k .loop-test .taken) (sym (d .is-digit .ensures) ∙ c .if2 .taken)) ∙ k .before .loop .inv .1)
+
+returns-2 : tie.Need-returns-2 Inv-loop μ-loop
+unfolding digits
+returns-2 c =
+    let d = c .before in
+    let k = d .before .before in
+    let a = k .before .before .before .before .args in
+    let f = fails isDigit (now (a .s)) (k .before .loop .i) (k .loop-test .taken) (sym (d .is-digit .ensures) ∙ c .if2 .left) in
+    rw (lt-ltb 0 (length (now (a .s))) (omega arith)) (sym f ∙ k .before .loop .inv .1)
+
+returns-3 : tie.Need-returns-3 Inv-loop μ-loop
+unfolding digits
+returns-3 c =
+    let a = c .before .before .before .before .args in
+    rw (lt-ltb 0 (length (now (a .s))) (omega arith)) (rw (drop-of-length-le (now (a .s)) (c .loop-test .left)) at (c .before .loop .inv .1))
+
+pub all-digits-spec : {M : Type 1} → statement M
+all-digits-spec =
+    tie.close
+    (tie.spec
+    Inv-loop
+    μ-loop
+    returns
+    loop-holds
+    shared-slice-read-is-digit
+    is-digit-requires
+    add-i
+    loop-less
+    loop-again
+    returns-2
+    returns-3)

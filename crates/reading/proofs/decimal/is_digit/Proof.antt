@@ -1,0 +1,15 @@
+use borrow.Author.Needs.{needs}
+use borrow.Author.Tests.{lt-leb, le-leb}
+use Rattle.reading.proofs.decimal.is_digit.Statement.{statement}
+use Rattle.reading.proofs.decimal.is_digit.Tie as tie
+use Rattle.reading.proofs.decimal.is_digit.Reads as reads
+use Rattle.reading.proofs.decimal.is_digit.Lts as lts
+
+returns : tie.Need-returns
+returns c = rw (lt-leb _ _ (c .if1 .taken))
+
+returns-2 : tie.Need-returns-2
+returns-2 c = rw (le-leb _ _ (c .if1 .left))
+
+pub is-digit-spec : {M : Type 1} → statement M
+is-digit-spec = tie.close (tie.spec returns returns-2)

@@ -1,0 +1,96 @@
+use borrow.Author.Needs.{needs}
+use mathlib.Core.Path.{_≡_, refl, sym, _∙_}
+use Prim.Native.Nat.{_-_, _≤_}
+use native.Mathlib.Omega.{arith}
+use denote.Ref.{now}
+use lib.ListN.{length, drop, drop-of-length-le}
+use borrow.Author.Tests.{le-leb}
+use Rattle.reading.specs.Decimal.{valueFrom, valued}
+use Rattle.reading.proofs.Valued.{one-more, too-much}
+use Rattle.reading.proofs.decimal.value.Statement.{statement}
+use Rattle.reading.proofs.decimal.value.Tie as tie
+use Rattle.reading.proofs.decimal.value.Reads as reads
+use Rattle.reading.proofs.decimal.value.Lts as lts
+use Rattle.reading.proofs.decimal.worth.Reads as worth-reads
+
+abbrev Inv-loop : tie.InvT-loop
+Inv-loop s most n₀ i₀ n i = (i ≤ length s) × (n ≤ most) × (valueFrom (drop i s) n ≡ valueFrom s 0)
+
+abbrev μ-loop : tie.MeasureT-loop
+μ-loop s most n₀ i₀ n i = length s - i
+
+loop-holds : tie.Need-loop-holds Inv-loop μ-loop
+loop-holds c = search needs
+
+shared-slice-read-worth : tie.Need-shared-slice-read-worth Inv-loop μ-loop
+shared-slice-read-worth c = search needs
+
+worth-requires : tie.Need-worth-requires Inv-loop μ-loop
+worth-requires c κs = search needs
+
+returns : tie.Need-returns Inv-loop μ-loop
+returns c =
+    let k = c .before .before .before in
+    let a = k .before .before .before .args in
+    let l = k .before .loop in
+    too-much (a .most) (now (a .s)) (l .i) (l .n) (k .loop-test .taken) (l .inv .2) (omega arith)
+
+mul-if2 : tie.Need-mul-if2 Inv-loop μ-loop
+mul-if2 c = search needs
+
+sub-if2 : tie.Need-sub-if2 Inv-loop μ-loop
+sub-if2 c = search needs
+
+returns-2 : tie.Need-returns-2 Inv-loop μ-loop
+returns-2 c =
+    let k = c .before .before .before .before in
+    let a = k .before .before .before .args in
+    let l = k .before .loop in
+    too-much (a .most) (now (a .s)) (l .i) (l .n) (k .loop-test .taken) (l .inv .2) (omega arith)
+
+mul-n : tie.Need-mul-n Inv-loop μ-loop
+mul-n c = search needs
+
+add-n : tie.Need-add-n Inv-loop μ-loop
+add-n c = search needs
+
+add-i : tie.Need-add-i Inv-loop μ-loop
+add-i c = search needs
+
+loop-less : tie.Need-loop-less Inv-loop μ-loop
+loop-less c = search needs
+
+loop-again : tie.Need-loop-again Inv-loop μ-loop
+loop-again c =
+    let k = c .before .before .before .before in
+    let a = k .before .before .before .args in
+    let l = k .before .loop in
+    (omega arith, omega arith, rw (c .before .before .worth .ensures .0) (one-more (now (a .s)) (l .i) (l .n) (k .loop-test .taken) ∙ l .inv .2))
+
+returns-3 : tie.Need-returns-3 Inv-loop μ-loop
+unfolding valued
+returns-3 c =
+    let a = c .before .before .before .args in
+    let l = c .before .loop in
+    let e = rw (drop-of-length-le (now (a .s)) (c .loop-test .left)) at (l .inv .2) in
+    rw (sym e, le-leb (l .n) (a .most) (l .inv .1))
+
+pub value-spec : {M : Type 1} → statement M
+value-spec =
+    tie.close
+    (tie.spec
+    Inv-loop
+    μ-loop
+    loop-holds
+    shared-slice-read-worth
+    worth-requires
+    returns
+    mul-if2
+    sub-if2
+    returns-2
+    mul-n
+    add-n
+    add-i
+    loop-less
+    loop-again
+    returns-3)

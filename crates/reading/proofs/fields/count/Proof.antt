@@ -1,0 +1,58 @@
+use borrow.Author.Needs.{needs}
+use mathlib.Core.Path.{_≡_, ap}
+use mathlib.Core.Logic.{⊎-elim}
+use Prim.Native.Nat.{_+_, _-_, _≤_}
+use native.Mathlib.Omega.{arith}
+use denote.Ref.{now}
+use lib.ListN.{length, drop, drop-of-length-le}
+use Rattle.reading.specs.Fields.{countOf}
+use Rattle.reading.proofs.Parted.{counted, passed}
+use Rattle.reading.proofs.fields.count.Statement.{statement}
+use Rattle.reading.proofs.fields.count.Tie as tie
+use Rattle.reading.proofs.fields.count.Reads as reads
+use Rattle.reading.proofs.fields.count.Lts as lts
+
+abbrev Inv-loop : tie.InvT-loop
+Inv-loop s b n₀ i₀ n i = (i ≤ length s) × (n ≤ i) × (n + countOf b (drop i s) ≡ countOf b s)
+
+abbrev μ-loop : tie.MeasureT-loop
+μ-loop s b n₀ i₀ n i = length s - i
+
+loop-holds : tie.Need-loop-holds Inv-loop μ-loop
+loop-holds c = search needs
+
+shared-slice-read-if1 : tie.Need-shared-slice-read-if1 Inv-loop μ-loop
+shared-slice-read-if1 c = search needs
+
+add-n : tie.Need-add-n Inv-loop μ-loop
+add-n c = search needs
+
+add-i : tie.Need-add-i Inv-loop μ-loop
+add-i c = search needs
+
+loop-less : tie.Need-loop-less Inv-loop μ-loop
+loop-less c = search needs
+
+loop-again : tie.Need-loop-again Inv-loop μ-loop
+loop-again c =
+    let k = c .before .before in
+    let a = k .before .before .args in
+    let i = k .before .loop .i in
+    ⊎-elim (λ w. omega (arith, counted (a .b) (now (a .s)) i (k .loop-test .taken) (w .0 .taken))) (λ w. omega (arith, passed (a .b) (now (a .s)) i (k .loop-test .taken) (w .0 .left))) (c .if1 .came)
+
+returns : tie.Need-returns Inv-loop μ-loop
+returns c = omega (arith, ap (countOf (c .before .before .args .b)) (drop-of-length-le (now (c .before .before .args .s)) (c .loop-test .left)))
+
+pub count-spec : {M : Type 1} → statement M
+count-spec =
+    tie.close
+    (tie.spec
+    Inv-loop
+    μ-loop
+    loop-holds
+    shared-slice-read-if1
+    add-n
+    add-i
+    loop-less
+    loop-again
+    returns)

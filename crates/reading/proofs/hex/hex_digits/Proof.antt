@@ -1,0 +1,78 @@
+use borrow.Author.Needs.{needs}
+use mathlib.Core.Path.{_≡_, refl, sym, _∙_}
+use Prim.Native.Nat.{_-_, _%_, _≤_}
+use native.Mathlib.Omega.{arith}
+use denote.Ref.{now}
+use lib.ListN.{length, drop, drop-of-length-le}
+use borrow.Author.Tests.{eq-eqb, ne-eqb}
+use Rattle.reading.specs.Decimal.{all}
+use Rattle.reading.specs.Hex.{isNibble, hexDigits}
+use Rattle.reading.proofs.Tests.{passes, fails}
+use Rattle.reading.proofs.hex.hex_digits.Statement.{statement}
+use Rattle.reading.proofs.hex.hex_digits.Tie as tie
+use Rattle.reading.proofs.hex.hex_digits.Reads as reads
+use Rattle.reading.proofs.hex.hex_digits.Lts as lts
+use Rattle.reading.proofs.hex.is_nibble.Reads as is-nibble-reads
+
+abbrev Inv-loop : tie.InvT-loop
+Inv-loop s a i₀ i = (i ≤ length s) × (all (isNibble a) (drop i s) ≡ all (isNibble a) s)
+
+abbrev μ-loop : tie.MeasureT-loop
+μ-loop s a i₀ i = length s - i
+
+returns : tie.Need-returns Inv-loop μ-loop
+unfolding hexDigits
+returns c = rw (ne-eqb (length (now (c .before .before .args .s)) % 2) 0 (c .if1 .taken))
+
+loop-holds : tie.Need-loop-holds Inv-loop μ-loop
+loop-holds c = search needs
+
+shared-slice-read-is-nibble : tie.Need-shared-slice-read-is-nibble Inv-loop μ-loop
+shared-slice-read-is-nibble c = search needs
+
+is-nibble-requires : tie.Need-is-nibble-requires Inv-loop μ-loop
+is-nibble-requires c κs = search needs
+
+add-i : tie.Need-add-i Inv-loop μ-loop
+add-i c = search needs
+
+loop-less : tie.Need-loop-less Inv-loop μ-loop
+loop-less c = search needs
+
+loop-again : tie.Need-loop-again Inv-loop μ-loop
+loop-again c =
+    let d = c .before in
+    let k = d .before .before in
+    let a = k .before .before .before .before .args in
+    (omega arith, sym (passes (isNibble (a .a)) (now (a .s)) (k .before .loop .i) (k .loop-test .taken) (sym (d .is-nibble .ensures) ∙ c .if2 .taken)) ∙ k .before .loop .inv .1)
+
+returns-2 : tie.Need-returns-2 Inv-loop μ-loop
+unfolding hexDigits
+returns-2 c =
+    let d = c .before in
+    let k = d .before .before in
+    let a = k .before .before .before .before .args in
+    let f = fails (isNibble (a .a)) (now (a .s)) (k .before .loop .i) (k .loop-test .taken) (sym (d .is-nibble .ensures) ∙ c .if2 .left) in
+    rw (eq-eqb (length (now (a .s)) % 2) 0 (omega arith)) (sym f ∙ k .before .loop .inv .1)
+
+returns-3 : tie.Need-returns-3 Inv-loop μ-loop
+unfolding hexDigits
+returns-3 c =
+    let a = c .before .before .before .before .args in
+    rw (eq-eqb (length (now (a .s)) % 2) 0 (omega arith)) (rw (drop-of-length-le (now (a .s)) (c .loop-test .left)) at (c .before .loop .inv .1))
+
+pub hex-digits-spec : {M : Type 1} → statement M
+hex-digits-spec =
+    tie.close
+    (tie.spec
+    Inv-loop
+    μ-loop
+    returns
+    loop-holds
+    shared-slice-read-is-nibble
+    is-nibble-requires
+    add-i
+    loop-less
+    loop-again
+    returns-2
+    returns-3)

@@ -1,0 +1,15 @@
+use borrow.Author.Needs.{needs}
+use borrow.Author.Tests.{lt-leb, le-leb}
+use Rattle.reading.proofs.hex.is_letter.Statement.{statement}
+use Rattle.reading.proofs.hex.is_letter.Tie as tie
+use Rattle.reading.proofs.hex.is_letter.Reads as reads
+use Rattle.reading.proofs.hex.is_letter.Lts as lts
+
+returns : tie.Need-returns
+returns c = rw (lt-leb _ _ (c .if1 .taken))
+
+returns-2 : tie.Need-returns-2
+returns-2 c = rw (le-leb _ _ (c .if1 .left))
+
+pub is-letter-spec : {M : Type 1} → statement M
+is-letter-spec = tie.close (tie.spec returns returns-2)

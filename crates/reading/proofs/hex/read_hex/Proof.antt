@@ -1,0 +1,67 @@
+use borrow.Author.Needs.{needs}
+use mathlib.Core.Path.{_≡_, refl, sym, _∙_}
+use mathlib.Core.Bool.{Bool}
+use native.Mathlib.Omega.{arith}
+use Prim.Native.Nat.{_/_}
+use borrow.Author.Tests.{lt-leb, le-leb}
+use denote.Ref.{now}
+use lib.ListN.{length}
+use Rattle.reading.specs.Hex.{ten, hexDigits, bytesRead, bytesLeft}
+use Rattle.reading.proofs.hex.read_hex.Statement.{statement}
+use Rattle.reading.proofs.hex.read_hex.Tie as tie
+use Rattle.reading.proofs.hex.read_hex.Reads as reads
+use Rattle.reading.proofs.hex.read_hex.Lts as lts
+use Rattle.reading.proofs.hex.decode.Reads as decode-reads
+use Rattle.reading.proofs.hex.hex_digits.Reads as hex-digits-reads
+use Rattle.reading.proofs.hex.ten.Reads as ten-reads
+
+tested : (c : tie.After-hex-digits) (t : Bool) → c .hex-digits .result ≡ t → let a = c .before .before .before .before .args in hexDigits (ten (a .case)) (now (a .s)) ≡ t
+tested c t e = rw (sym (c .before .ten .ensures)) (sym (c .hex-digits .ensures) ∙ e)
+
+ten-requires : tie.Need-ten-requires
+ten-requires c κs = search needs
+
+hex-digits-requires : tie.Need-hex-digits-requires
+hex-digits-requires c κs = search needs
+
+returns : tie.Need-returns
+unfolding bytesRead bytesLeft
+returns c =
+    let k = c .before .before in
+    let a = k .before .before .before .before .args in
+    let y = tested k _ (c .before .if1 .taken) in
+    let r = lt-leb (length (now (a .s)) / 2) (length (now (a .out))) (omega arith) in
+    (rw (y, r), rw (y, r))
+
+decode-requires : tie.Need-decode-requires
+decode-requires c κs = search needs
+
+same-length : tie.Need-same-length
+same-length c = search needs
+
+returns-2 : tie.Need-returns-2
+unfolding bytesRead bytesLeft
+returns-2 c =
+    let d = c .before .before in
+    let i = d .before .before in
+    let k = i .before .before in
+    let a = k .before .before .before .before .args in
+    let y = tested k _ (i .before .if1 .taken) in
+    let r = le-leb (length (now (a .s)) / 2) (length (now (a .out))) (omega arith) in
+    (rw (y, r), rw (y, r, ← k .before .ten .ensures) (d .decode .ensures))
+
+returns-3 : tie.Need-returns-3
+unfolding bytesRead bytesLeft
+returns-3 c = let y = tested (c .before) _ (c .if1 .left) in (rw y, rw y)
+
+pub read-hex-spec : {M : Type 1} → statement M
+read-hex-spec =
+    tie.close
+    (tie.spec
+    ten-requires
+    hex-digits-requires
+    returns
+    decode-requires
+    same-length
+    returns-2
+    returns-3)

@@ -1,0 +1,4 @@
+pub mod Fields
+pub mod Decimal
+pub mod Hex
+pub mod Words

@@ -1,0 +1,14 @@
+use borrow.Author.Needs.{needs}
+use Rattle.requests.proofs.check.Statement.{statement}
+use Rattle.requests.proofs.check.Tie as tie
+use Rattle.requests.proofs.check.Reads as reads
+use Rattle.requests.proofs.check.Lts as lts
+
+returns : tie.Need-returns
+returns c = rw (c .if1 .taken)
+
+returns-2 : tie.Need-returns-2
+returns-2 c = rw (c .if1 .left)
+
+pub check-spec : {M : Type 1} → statement M
+check-spec = tie.close (tie.spec returns returns-2)

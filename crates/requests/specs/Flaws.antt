@@ -1,0 +1,68 @@
+-- What is wrong with a line that is no call, first of all that is.
+use mathlib.Core.Bool.{Bool, true, false, cond, _&&_, _||_}
+use mathlib.Core.List.{List, [], _∷_}
+use Prim.Native.Nat.{ℕ}
+use lib.Dec.{eqb, leb}
+use lib.ListN.{length}
+use Rattle.reading.specs.declared.hex.Case.the-variants.{Lower}
+use Rattle.reading.specs.Decimal.{numberOf}
+use Rattle.reading.specs.Fields.{countOf, fieldAt}
+use Rattle.reading.specs.Hex.{ten, hexDigits}
+use Rattle.reading.specs.Words.{ascii, alike}
+use Rattle.commands.specs.declared.Named.{Named}
+use Rattle.commands.specs.declared.Named.the-variants.{Known, Unknown}
+use Rattle.requests.specs.declared.Fault.{Fault}
+use Rattle.requests.specs.declared.Fault.the-variants.{LongLine, FieldCount, Variant, Flag, UnknownOperation, Arguments, Bytes, Used}
+use Rattle.requests.specs.declared.Flaw.{Flaw}
+use Rattle.requests.specs.declared.Flaw.the-variants.{Clear, Wrong}
+use Rattle.commands.specs.Operations.{count, kinds, operationOf}
+use Rattle.arguments.specs.Arguments.{isNumber, fit}
+
+abbrev pub orElse : Flaw → Flaw → Flaw
+orElse Clear next = next
+orElse (Wrong f) next = Wrong f
+
+abbrev pub checked : Bool → Fault → Flaw
+checked right f = cond right Clear (Wrong f)
+
+-- field k of a line, counted from 0
+abbrev pub at : ℕ → List ℕ → List ℕ
+at k line = fieldAt 9 k line
+
+abbrev pub isEither : List ℕ → List ℕ → List ℕ → Bool
+isEither a b s = alike s a || alike s b
+
+-- 1 to 1,024 bytes, or none
+abbrev pub isLent : List ℕ → Bool
+isLent s = alike s (ascii "-") || (leb 1 (length s) && (leb (length s) 2048 && hexDigits (ten Lower) s))
+
+-- field k, which is told as number n
+unfoldable pub flagFlaw : ℕ → ℕ → List ℕ → Flaw
+flagFlaw k n line = checked (isEither (ascii "0") (ascii "1") (at k line)) (Flag n)
+
+unfoldable pub bytesFlaw : ℕ → ℕ → List ℕ → Flaw
+bytesFlaw k n line = checked (isLent (at k line)) (Bytes n)
+
+unfoldable pub headFlaw : List ℕ → Flaw
+headFlaw line =
+    orElse (checked (isEither (ascii "1272") (ascii "1276") (at 0 line)) Variant)
+    (orElse (flagFlaw 1 2 line) (orElse (flagFlaw 2 3 line) (flagFlaw 3 4 line)))
+
+abbrev pub argumentsFlaw : Named → List ℕ → Flaw
+argumentsFlaw Unknown s = Wrong UnknownOperation
+argumentsFlaw (Known o) s = checked (fit (kinds o) s) (Arguments o)
+
+unfoldable pub askedFlaw : List ℕ → Flaw
+askedFlaw line = argumentsFlaw (operationOf (at 4 line)) (at 5 line)
+
+unfoldable pub lentFlaw : List ℕ → Flaw
+lentFlaw line = orElse (bytesFlaw 6 7 line) (orElse (bytesFlaw 7 8 line) (orElse (bytesFlaw 8 9 line) (bytesFlaw 9 10 line)))
+
+unfoldable pub usedFlaw : List ℕ → Flaw
+usedFlaw line = checked (isNumber (numberOf count (at 10 line))) Used
+
+unfoldable pub flawOf : List ℕ → Flaw
+flawOf line =
+    orElse (checked (leb (length line) 16384) LongLine)
+    (orElse (checked (eqb (countOf 9 line) 10) FieldCount)
+    (orElse (headFlaw line) (orElse (askedFlaw line) (orElse (lentFlaw line) (usedFlaw line)))))

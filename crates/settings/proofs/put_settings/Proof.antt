@@ -1,0 +1,41 @@
+use borrow.Author.Needs.{needs}
+use native.Mathlib.Omega.{arith}
+use mathlib.Core.Path.{_≡_, ap}
+use mathlib.Core.List.{[], _∷_}
+use Prim.Native.Nat.{_<_}
+use lib.IntN.{ℤ}
+use lib.Signed.{mag}
+use mir.Syntax.{w32}
+use mir.ValLaws.{toZ-ofZ}
+use Rattle.printing.proofs.Appending.{same, then}
+use Rattle.replies.specs.Answers.{valuesText}
+use Rattle.replies.proofs.Values.{joined}
+use Rattle.settings.specs.Link.{unsignedValues}
+use Rattle.settings.proofs.put_settings.Statement.{statement}
+use Rattle.settings.proofs.put_settings.Tie as tie
+use Rattle.settings.proofs.put_settings.Reads as reads
+use Rattle.settings.proofs.put_settings.Lts as lts
+use Rattle.replies.proofs.put_value.Reads as put-value-reads
+use Rattle.settings.proofs.put_unsigned.Reads as put-unsigned-reads
+
+put-unsigned-requires : tie.Need-put-unsigned-requires
+put-unsigned-requires c κs = search needs
+
+put-value-requires : tie.Need-put-value-requires
+put-value-requires c κs = search needs
+
+same-length : tie.Need-same-length
+same-length c = search needs
+
+returns : tie.Need-returns
+returns c =
+    let v = c .before .before in
+    let u = v .before .before .before .before in
+    let l = u .before .before .before .before .args .l in
+    let f : mag (l .power) < 2147483648 = u .before .before .struct-told .given .1 .1 .1 .1 .1 .1 .1 .1 .1 .0 .1 in
+    let power = same (ap (λ (z : ℤ). valuesText (z ∷ [])) (toZ-ofZ w32 (l .power) (record { sfits = f }))) (v .put-value .ensures .0) in
+    (same (joined (unsignedValues l) (l .power ∷ [])) (then (u .put-unsigned .ensures .0) power), omega arith)
+
+pub put-settings-spec : {M : Type 1} → statement M
+put-settings-spec =
+    tie.close (tie.spec put-unsigned-requires put-value-requires same-length returns)
