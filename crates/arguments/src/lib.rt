@@ -44,7 +44,7 @@ fn is_signed(s: &[u8]) -> bool
     }
 }
 
-fn of_kind(most: u64, s: &[u8]) -> bool
+pub fn of_kind(most: u64, s: &[u8]) -> bool
     ensures { λ r. ⌜ r ≡ ofKind most (now (s .entry)) ⌝ }
 {
     if most == POWER {

@@ -35,7 +35,7 @@ pub enum Named {
     Unknown,
 }
 
-fn found(w: &[u8], name: &[u8], o: Operation, rest: Named) -> Named
+pub fn found(w: &[u8], name: &[u8], o: Operation, rest: Named) -> Named
     ensures { λ r. ⌜ r ≡ cond (alike (now (w .entry)) (now (name .entry))) (Named.Known o) rest ⌝ }
 {
     if same(w, name) { Named::Known(o) } else { rest }

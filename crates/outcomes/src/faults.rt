@@ -14,7 +14,7 @@ use reading::field;
 use requests::Fault;
 
 // An operation's row in the table of arguments.
-fn row_of(o: Operation) -> usize
+pub fn row_of(o: Operation) -> usize
     ensures { λ r. ⌜ r ≡ row o ⌝ }
 {
     match o {

@@ -3,4 +3,5 @@ mod faults;
 mod lent;
 
 pub use faults::put_fault;
+pub use faults::row_of;
 pub use lent::put_left;

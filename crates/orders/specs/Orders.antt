@@ -1,0 +1,54 @@
+-- What is a command, and what is wrong first with a line that is none. Fields are parted by tabs; the first is the command's word.
+use mathlib.Core.Bool.{Bool, cond, _&&_, _||_}
+use mathlib.Core.List.{List, [], _∷_}
+use Prim.Native.Nat.{ℕ, suc, _+_}
+use lib.Dec.{leb, ltb}
+use lib.ListN.{length, getD}
+use Rattle.reading.specs.declared.hex.Case.the-variants.{Lower, Upper}
+use Rattle.reading.specs.Fields.{countOf, fieldAt}
+use Rattle.reading.specs.Hex.{ten, hexDigits}
+use Rattle.reading.specs.Words.{ascii, alike}
+use Rattle.commands.specs.declared.Operation.{Operation}
+use Rattle.commands.specs.declared.Named.{Named}
+use Rattle.commands.specs.declared.Named.the-variants.{Known, Unknown}
+use Rattle.commands.specs.Operations.{kinds}
+use Rattle.arguments.specs.Arguments.{ofKind}
+use Rattle.shorthand.specs.Shorthand.{commandOf}
+use Rattle.orders.specs.declared.judge.Expected.{Expected}
+use Rattle.orders.specs.declared.judge.Expected.the-variants.{Command, Number, Bytes, Nothing}
+use Rattle.orders.specs.declared.judge.Flaw.{Flaw}
+use Rattle.orders.specs.declared.judge.Flaw.the-variants.{Clear, Wrong}
+
+-- 1 to 1,024 bytes, all in one case of letters, or a dash for none
+abbrev pub isBytes : List ℕ → Bool
+isBytes s =
+    alike s (ascii "-") || (leb 1 (length s) && (leb (length s) 2048 && (hexDigits (ten Lower) s || hexDigits (ten Upper) s)))
+
+abbrev pub isSend : List ℕ → Bool
+isSend w = alike w (ascii "payload") || alike w (ascii "set_payload")
+
+-- the first argument from number i on that is not of its kind, or their count; a field that is missing is empty
+abbrev pub misfitFrom : List ℕ → ℕ → List ℕ → ℕ
+misfitFrom line i [] = i
+misfitFrom line i (k ∷ ks) = cond (ofKind k (fieldAt 9 (suc i) line)) (misfitFrom line (suc i) ks) i
+
+-- behind n arguments nothing stands
+unfoldable pub surplusFlaw : ℕ → List ℕ → Flaw
+surplusFlaw n line = cond (leb (countOf 9 line) n) Clear (Wrong (n + 2) Nothing)
+
+unfoldable pub bytesFlaw : List ℕ → Flaw
+bytesFlaw line = cond (isBytes (fieldAt 9 1 line)) (surplusFlaw 1 line) (Wrong 2 Bytes)
+
+-- the arguments before number i are right
+abbrev pub rightUpTo : Operation → List ℕ → ℕ → Flaw
+rightUpTo o line i = cond (ltb i (length (kinds o))) (Wrong (i + 2) (Number (getD (kinds o) i 0))) (surplusFlaw i line)
+
+unfoldable pub numbersFlaw : Operation → List ℕ → Flaw
+numbersFlaw o line = rightUpTo o line (misfitFrom line 0 (kinds o))
+
+abbrev pub commandFlaw : Named → List ℕ → Flaw
+commandFlaw Unknown line = Wrong 1 Command
+commandFlaw (Known o) line = numbersFlaw o line
+
+unfoldable pub flawOf : List ℕ → Flaw
+flawOf line = cond (isSend (fieldAt 9 0 line)) (bytesFlaw line) (commandFlaw (commandOf (fieldAt 9 0 line)) line)

@@ -1,0 +1,43 @@
+-- Short words for the operations.
+use mathlib.Core.Bool.{cond}
+use mathlib.Core.List.{List, [], _∷_, _++_}
+use Prim.Native.Nat.{ℕ}
+use Rattle.reading.specs.Words.{ascii, alike}
+use Rattle.commands.specs.declared.Operation.{Operation}
+use Rattle.commands.specs.declared.Operation.the-variants.{InitLora, CreateModulationParams, CreatePacketParams, Reset, SetStandby, SetSleep, SetTxRxBufferBaseAddress, SetTxPowerAndRampTime, SetModulationParams, SetPacketParams, SetChannel, SetPayload, DoTx, DoRx, GetRxPayload, GetRxPacketStatus, DoCad, SetIrqParams, ProcessIrqEvent, SetTxContinuousWaveMode, Program, ReadLink}
+use Rattle.commands.specs.declared.Named.{Named}
+use Rattle.commands.specs.declared.Named.the-variants.{Known}
+use Rattle.commands.specs.Operations.{modes, packets, settings, operationOf}
+
+abbrev pub word : Operation → List ℕ
+word InitLora = ascii "init"
+word CreateModulationParams = ascii "create_modulation"
+word CreatePacketParams = ascii "create_packet"
+word Reset = ascii "reset"
+word SetStandby = ascii "standby"
+word SetSleep = ascii "sleep"
+word SetTxRxBufferBaseAddress = ascii "bases"
+word SetTxPowerAndRampTime = ascii "power"
+word SetModulationParams = ascii "modulation"
+word SetPacketParams = ascii "packet"
+word SetChannel = ascii "channel"
+word SetPayload = ascii "payload"
+word DoTx = ascii "tx"
+word DoRx = ascii "rx"
+word GetRxPayload = ascii "receive"
+word GetRxPacketStatus = ascii "status"
+word DoCad = ascii "cad"
+word SetIrqParams = ascii "irq"
+word ProcessIrqEvent = ascii "event"
+word SetTxContinuousWaveMode = ascii "carrier"
+word Program = ascii "program"
+word ReadLink = ascii "read"
+
+-- the first of some operations that has this word
+abbrev pub among : List ℕ → List Operation → Named → Named
+among w [] rest = rest
+among w (o ∷ os) rest = cond (alike w (word o)) (Known o) (among w os rest)
+
+-- by its word, or else by its own name
+unfoldable pub commandOf : List ℕ → Named
+commandOf w = among w (modes ++ (packets ++ settings)) (operationOf w)
