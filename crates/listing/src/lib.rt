@@ -13,7 +13,11 @@ const LETTERS: [u8; 7] = [b'R', b'W', b'F', b'G', b'S', b'P', b'Z'];
 fn letter(kind: u8) -> u8
     ensures { λ r. ⌜ r ≡ letterOf kind ⌝ }
 {
-    if kind < 7 { LETTERS[kind as usize] } else { b'?' }
+    if kind < 7 {
+        LETTERS[kind as usize]
+    } else {
+        b'?'
+    }
 }
 
 fn put_record(kind: u8, address: u8, data: u8, out: &mut [u8], at: usize) -> usize

@@ -15,7 +15,8 @@ pub fn put_name(e: RadioError, out: &mut [u8], at: usize) -> usize
     ensures { λ r. ⌜ r ≤ at + 31 ⌝ }
 {
     // at each error's number its name
-    let table = b" SPI Reset RfSwitchRx RfSwitchTx Busy Irq DIO1 InvalidConfiguration InvalidRadioMode OpError InvalidBaseAddress PayloadSizeUnexpected PayloadSizeMismatch UnavailableSpreadingFactor UnavailableBandwidth InvalidBandwidthForFrequency InvalidSF6ExplicitHeaderRequest InvalidOutputPowerForFrequency TransmitTimeout ReceiveTimeout DutyCycleUnsupported RngUnsupported FrequencyOutOfRange LogFull CarrierUnsupported BadImage NotALink";
+    let table =
+        b" SPI Reset RfSwitchRx RfSwitchTx Busy Irq DIO1 InvalidConfiguration InvalidRadioMode OpError InvalidBaseAddress PayloadSizeUnexpected PayloadSizeMismatch UnavailableSpreadingFactor UnavailableBandwidth InvalidBandwidthForFrequency InvalidSF6ExplicitHeaderRequest InvalidOutputPowerForFrequency TransmitTimeout ReceiveTimeout DutyCycleUnsupported RngUnsupported FrequencyOutOfRange LogFull CarrierUnsupported BadImage NotALink";
     put(field(table, b' ', e.number() as usize), out, at)
 }
 

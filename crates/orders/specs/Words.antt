@@ -16,7 +16,7 @@ rangeText most =
 abbrev pub expectedText : Expected → List ℕ
 expectedText Command = ascii "a command"
 expectedText (Number most) = rangeText most
-expectedText Bytes = ascii "bytes, two hexadecimal digits each, or - for none"
+expectedText Bytes = ascii "hexadecimal digits in pairs, of one case, or - for none"
 expectedText Nothing = ascii "nothing more"
 
 abbrev pub placeText : ℕ → ℕ → List ℕ

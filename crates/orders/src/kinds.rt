@@ -19,21 +19,21 @@ const COUNT: u64 = 18446744073709551615;
 // This one may be as far below zero too.
 pub const POWER: u64 = 2147483647;
 
-// Ten to a row; 0 where there is no argument.
-const MOST: [u64; 130] = [
-    0, 0, 0, 0, 0, 0, 0, 0, 0, 0,
-    BYTE, 0, 0, 0, 0, 0, 0, 0, 0, 0,
-    BYTE, BYTE, BYTE, HERTZ, 0, 0, 0, 0, 0, 0,
-    WORD, BYTE, BYTE, BYTE, BYTE, BYTE, 0, 0, 0, 0,
-    COUNT, COUNT, 0, 0, 0, 0, 0, 0, 0, 0,
-    POWER, BYTE, 0, 0, 0, 0, 0, 0, 0, 0,
-    BYTE, BYTE, BYTE, BYTE, 0, 0, 0, 0, 0, 0,
-    WORD, BYTE, BYTE, BYTE, BYTE, 0, 0, 0, 0, 0,
-    HERTZ, 0, 0, 0, 0, 0, 0, 0, 0, 0,
-    BYTE, WORD, 0, 0, 0, 0, 0, 0, 0, 0,
-    BYTE, BYTE, 0, 0, 0, 0, 0, 0, 0, 0,
-    BYTE, BYTE, BYTE, 0, 0, 0, 0, 0, 0, 0,
-    BYTE, BYTE, BYTE, BYTE, HERTZ, WORD, BYTE, BYTE, BYTE, POWER,
+// 0 where there is no argument.
+const MOST: [[u64; 10]; 13] = [
+    [0, 0, 0, 0, 0, 0, 0, 0, 0, 0],
+    [BYTE, 0, 0, 0, 0, 0, 0, 0, 0, 0],
+    [BYTE, BYTE, BYTE, HERTZ, 0, 0, 0, 0, 0, 0],
+    [WORD, BYTE, BYTE, BYTE, BYTE, BYTE, 0, 0, 0, 0],
+    [COUNT, COUNT, 0, 0, 0, 0, 0, 0, 0, 0],
+    [POWER, BYTE, 0, 0, 0, 0, 0, 0, 0, 0],
+    [BYTE, BYTE, BYTE, BYTE, 0, 0, 0, 0, 0, 0],
+    [WORD, BYTE, BYTE, BYTE, BYTE, 0, 0, 0, 0, 0],
+    [HERTZ, 0, 0, 0, 0, 0, 0, 0, 0, 0],
+    [BYTE, WORD, 0, 0, 0, 0, 0, 0, 0, 0],
+    [BYTE, BYTE, 0, 0, 0, 0, 0, 0, 0, 0],
+    [BYTE, BYTE, BYTE, 0, 0, 0, 0, 0, 0, 0],
+    [BYTE, BYTE, BYTE, BYTE, HERTZ, WORD, BYTE, BYTE, BYTE, POWER],
 ];
 
 pub fn argument_count(o: Operation) -> usize
@@ -48,5 +48,6 @@ pub fn argument_most(o: Operation, i: usize) -> u64
     ensures { λ r. ⌜ r ≡ getD (kinds o) i 0 ⌝ }
 {
     let row = row_of(o);
-    MOST[row * 10 + i]
+    let kinds = MOST[row];
+    kinds[i]
 }

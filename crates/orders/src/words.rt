@@ -30,7 +30,11 @@ fn put_expected(e: Expected, out: &mut [u8], at: usize) -> usize
     match e {
         Expected::Command => put(b"a command", out, at),
         Expected::Number(most) => put_range(most, out, at),
-        Expected::Bytes => put(b"bytes, two hexadecimal digits each, or - for none", out, at),
+        Expected::Bytes => put(
+            b"hexadecimal digits in pairs, of one case, or - for none",
+            out,
+            at,
+        ),
         Expected::Nothing => put(b"nothing more", out, at),
     }
 }

@@ -38,7 +38,12 @@ fn settings(w: &[u8], rest: Named) -> Named
     let n = found(w, b"program", Operation::Program, n);
     let n = found(w, b"channel", Operation::SetChannel, n);
     let n = found(w, b"modulation", Operation::SetModulationParams, n);
-    let n = found(w, b"create_modulation", Operation::CreateModulationParams, n);
+    let n = found(
+        w,
+        b"create_modulation",
+        Operation::CreateModulationParams,
+        n,
+    );
     let n = found(w, b"power", Operation::SetTxPowerAndRampTime, n);
     let n = found(w, b"bases", Operation::SetTxRxBufferBaseAddress, n);
     found(w, b"init", Operation::InitLora, n)

@@ -2,34 +2,12 @@ use borrow.Author.Needs.{needs}
 use Rattle.boards.specs.Boards.{wordedBoard}
 use Rattle.boards.proofs.with_word.Statement.{statement}
 use Rattle.boards.proofs.with_word.Tie as tie
-use Rattle.boards.proofs.with_word.Reads as reads
-use Rattle.boards.proofs.with_word.Lts as lts
-use Rattle.boards.proofs.of_variant.Reads as of-variant-reads
-use Rattle.reading.proofs.same.Reads as same-reads
-
-slice-aggregate-same : tie.Need-slice-aggregate-same
-slice-aggregate-same c = search needs
-
-same-requires : tie.Need-same-requires
-same-requires c κs = search needs
-
-of-variant-requires : tie.Need-of-variant-requires
-of-variant-requires c κs = search needs
 
 returns : tie.Need-returns
 unfolding wordedBoard
 returns c =
     let t = c .before in
     rw (← t .before .same .ensures, t .if1 .taken, c .of-variant .ensures)
-
-slice-aggregate-same-2 : tie.Need-slice-aggregate-same-2
-slice-aggregate-same-2 c = search needs
-
-same-requires-2 : tie.Need-same-requires-2
-same-requires-2 c κs = search needs
-
-of-variant-requires-2 : tie.Need-of-variant-requires-2
-of-variant-requires-2 c κs = search needs
 
 returns-2 : tie.Need-returns-2
 unfolding wordedBoard
@@ -38,35 +16,17 @@ returns-2 c =
     let e = t .before .before .before in
     rw (← e .before .same .ensures, e .if1 .left, ← t .before .same2 .ensures, t .if2 .taken, c .of-variant2 .ensures)
 
-slice-aggregate-same-3 : tie.Need-slice-aggregate-same-3
-slice-aggregate-same-3 c = search needs
-
-same-requires-3 : tie.Need-same-requires-3
-same-requires-3 c κs = search needs
-
 returns-3 : tie.Need-returns-3
 unfolding wordedBoard
 returns-3 c =
     let e = c .before .before .before in
     rw (← e .before .before .before .before .same .ensures, e .before .before .before .if1 .left, ← e .before .same2 .ensures, e .if2 .left, ← c .before .same3 .ensures, c .if3 .taken)
 
-slice-aggregate-same-4 : tie.Need-slice-aggregate-same-4
-slice-aggregate-same-4 c = search needs
-
-same-requires-4 : tie.Need-same-requires-4
-same-requires-4 c κs = search needs
-
 returns-4 : tie.Need-returns-4
 unfolding wordedBoard
 returns-4 c =
     let e = c .before .before .before in
     rw (← e .before .before .before .before .before .before .before .same .ensures, e .before .before .before .before .before .before .if1 .left, ← e .before .before .before .before .same2 .ensures, e .before .before .before .if2 .left, ← e .before .same3 .ensures, e .if3 .left, ← c .before .same4 .ensures, c .if4 .taken)
-
-slice-aggregate-same-5 : tie.Need-slice-aggregate-same-5
-slice-aggregate-same-5 c = search needs
-
-same-requires-5 : tie.Need-same-requires-5
-same-requires-5 c κs = search needs
 
 returns-5 : tie.Need-returns-5
 unfolding wordedBoard
@@ -83,21 +43,21 @@ pub with-word-spec : {M : Type 1} → statement M
 with-word-spec =
     tie.close
     (tie.spec
-    slice-aggregate-same
-    same-requires
-    of-variant-requires
+    (λ c. search needs)
+    (λ c κs. search needs)
+    (λ c κs. search needs)
     returns
-    slice-aggregate-same-2
-    same-requires-2
-    of-variant-requires-2
+    (λ c. search needs)
+    (λ c κs. search needs)
+    (λ c κs. search needs)
     returns-2
-    slice-aggregate-same-3
-    same-requires-3
+    (λ c. search needs)
+    (λ c κs. search needs)
     returns-3
-    slice-aggregate-same-4
-    same-requires-4
+    (λ c. search needs)
+    (λ c κs. search needs)
     returns-4
-    slice-aggregate-same-5
-    same-requires-5
+    (λ c. search needs)
+    (λ c κs. search needs)
     returns-5
     returns-6)

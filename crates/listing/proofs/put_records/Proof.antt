@@ -11,9 +11,6 @@ use mathlib.Core.List.{List}
 use mathlib.Core.Path.{_≡_}
 use Rattle.listing.proofs.put_records.Statement.{statement}
 use Rattle.listing.proofs.put_records.Tie as tie
-use Rattle.listing.proofs.put_records.Reads as reads
-use Rattle.listing.proofs.put_records.Lts as lts
-use Rattle.listing.proofs.put_record.Reads as put-record-reads
 
 abbrev Inv-loop : tie.InvT-loop
 Inv-loop log out₀ at i₀ o₀ out i o =
@@ -26,33 +23,6 @@ abbrev μ-loop : tie.MeasureT-loop
 loop-holds : tie.Need-loop-holds Inv-loop μ-loop
 loop-holds c = (search needs, search needs, search needs, (λ r out′ p. p))
 
-sub-loop : tie.Need-sub-loop Inv-loop μ-loop
-sub-loop c = search needs
-
-shared-slice-read-put-record : tie.Need-shared-slice-read-put-record Inv-loop μ-loop
-shared-slice-read-put-record c = search needs
-
-add-put-record : tie.Need-add-put-record Inv-loop μ-loop
-add-put-record c = search needs
-
-shared-slice-read-put-record-2 : tie.Need-shared-slice-read-put-record-2 Inv-loop μ-loop
-shared-slice-read-put-record-2 c = search needs
-
-add-put-record-2 : tie.Need-add-put-record-2 Inv-loop μ-loop
-add-put-record-2 c = search needs
-
-shared-slice-read-put-record-3 : tie.Need-shared-slice-read-put-record-3 Inv-loop μ-loop
-shared-slice-read-put-record-3 c = search needs
-
-put-record-requires : tie.Need-put-record-requires Inv-loop μ-loop
-put-record-requires c κs = search needs
-
-add-i : tie.Need-add-i Inv-loop μ-loop
-add-i c = search needs
-
-loop-less : tie.Need-loop-less Inv-loop μ-loop
-loop-less c = search needs
-
 loop-again : tie.Need-loop-again Inv-loop μ-loop
 loop-again c =
     let p = c .before .before in
@@ -60,9 +30,6 @@ loop-again c =
     let l = k .before .loop in
     let log = now (k .before .before .before .before .args .log) in
     (omega arith, omega arith, omega arith, (λ r out′ rest. l .inv .3 r out′ (same (record-more log (l .i) (omega arith)) (then (p .put-record .ensures .0) rest))))
-
-same-length : tie.Need-same-length Inv-loop μ-loop
-same-length c = search needs
 
 returns : tie.Need-returns Inv-loop μ-loop
 returns c =
@@ -77,15 +44,15 @@ put-records-spec =
     Inv-loop
     μ-loop
     loop-holds
-    sub-loop
-    shared-slice-read-put-record
-    add-put-record
-    shared-slice-read-put-record-2
-    add-put-record-2
-    shared-slice-read-put-record-3
-    put-record-requires
-    add-i
-    loop-less
+    (λ c. search needs)
+    (λ c. search needs)
+    (λ c. search needs)
+    (λ c. search needs)
+    (λ c. search needs)
+    (λ c. search needs)
+    (λ c κs. search needs)
+    (λ c. search needs)
+    (λ c. search needs)
     loop-again
-    same-length
+    (λ c. search needs)
     returns)

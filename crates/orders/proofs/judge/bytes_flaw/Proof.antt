@@ -2,20 +2,6 @@ use borrow.Author.Needs.{needs}
 use Rattle.orders.specs.Orders.{bytesFlaw}
 use Rattle.orders.proofs.judge.bytes_flaw.Statement.{statement}
 use Rattle.orders.proofs.judge.bytes_flaw.Tie as tie
-use Rattle.orders.proofs.judge.bytes_flaw.Reads as reads
-use Rattle.orders.proofs.judge.bytes_flaw.Lts as lts
-use Rattle.orders.proofs.judge.is_bytes.Reads as is-bytes-reads
-use Rattle.orders.proofs.judge.surplus_flaw.Reads as surplus-flaw-reads
-use Rattle.reading.proofs.field.Reads as field-reads
-
-field-requires : tie.Need-field-requires
-field-requires c κs = search needs
-
-is-bytes-requires : tie.Need-is-bytes-requires
-is-bytes-requires c κs = search needs
-
-surplus-flaw-requires : tie.Need-surplus-flaw-requires
-surplus-flaw-requires c κs = search needs
 
 returns : tie.Need-returns
 unfolding bytesFlaw
@@ -29,4 +15,4 @@ returns-2 c = rw (← c .before .before .field .ensures, ← c .before .is-bytes
 
 pub bytes-flaw-spec : {M : Type 1} → statement M
 bytes-flaw-spec =
-    tie.close (tie.spec field-requires is-bytes-requires surplus-flaw-requires returns returns-2)
+    tie.close (tie.spec (λ c κs. search needs) (λ c κs. search needs) (λ c κs. search needs) returns returns-2)

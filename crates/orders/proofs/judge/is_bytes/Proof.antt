@@ -2,16 +2,6 @@ use borrow.Author.Needs.{needs}
 use borrow.Author.Tests.{lt-leb, le-leb}
 use Rattle.orders.proofs.judge.is_bytes.Statement.{statement}
 use Rattle.orders.proofs.judge.is_bytes.Tie as tie
-use Rattle.orders.proofs.judge.is_bytes.Reads as reads
-use Rattle.orders.proofs.judge.is_bytes.Lts as lts
-use Rattle.reading.proofs.is_hex.Reads as is-hex-reads
-use Rattle.reading.proofs.same.Reads as same-reads
-
-slice-aggregate-same : tie.Need-slice-aggregate-same
-slice-aggregate-same c = search needs
-
-same-requires : tie.Need-same-requires
-same-requires c κs = search needs
 
 returns : tie.Need-returns
 returns c = rw (← c .before .same .ensures, c .if1 .taken)
@@ -22,16 +12,10 @@ returns-2 c = rw (← c .before .before .same .ensures, c .before .if1 .left, lt
 returns-3 : tie.Need-returns-3
 returns-3 c = rw (← c .before .before .before .same .ensures, c .before .before .if1 .left, le-leb _ _ (c .before .if2 .left), lt-leb _ _ (c .if3 .taken))
 
-is-hex-requires : tie.Need-is-hex-requires
-is-hex-requires c κs = search needs
-
 returns-4 : tie.Need-returns-4
 returns-4 c =
     let h = c .before in
     rw (← h .before .before .before .before .same .ensures, h .before .before .before .if1 .left, le-leb _ _ (h .before .before .if2 .left), le-leb _ _ (h .before .if3 .left), ← h .is-hex .ensures, c .if4 .taken)
-
-is-hex-requires-2 : tie.Need-is-hex-requires-2
-is-hex-requires-2 c κs = search needs
 
 returns-5 : tie.Need-returns-5
 returns-5 c =
@@ -42,12 +26,12 @@ pub is-bytes-spec : {M : Type 1} → statement M
 is-bytes-spec =
     tie.close
     (tie.spec
-    slice-aggregate-same
-    same-requires
+    (λ c. search needs)
+    (λ c κs. search needs)
     returns
     returns-2
     returns-3
-    is-hex-requires
+    (λ c κs. search needs)
     returns-4
-    is-hex-requires-2
+    (λ c κs. search needs)
     returns-5)

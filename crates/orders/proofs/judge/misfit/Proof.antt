@@ -14,42 +14,12 @@ use Prim.Native.Nat.{_-_, _≤_}
 use mathlib.Core.Path.{_≡_, sym, _∙_}
 use Rattle.orders.proofs.judge.misfit.Statement.{statement}
 use Rattle.orders.proofs.judge.misfit.Tie as tie
-use Rattle.orders.proofs.judge.misfit.Reads as reads
-use Rattle.orders.proofs.judge.misfit.Lts as lts
-use Rattle.arguments.proofs.of_kind.Reads as of-kind-reads
-use Rattle.orders.proofs.kinds.argument_count.Reads as argument-count-reads
-use Rattle.orders.proofs.kinds.argument_most.Reads as argument-most-reads
-use Rattle.reading.proofs.field.Reads as field-reads
 
 abbrev Inv-loop : tie.InvT-loop
 Inv-loop o line n i₀ i = (i ≤ n) × (n ≤ 10) × (misfitFrom line i (drop i (kinds o)) ≡ misfitFrom line 0 (kinds o))
 
 abbrev μ-loop : tie.MeasureT-loop
 μ-loop o line n i₀ i = n - i
-
-argument-count-requires : tie.Need-argument-count-requires Inv-loop μ-loop
-argument-count-requires c κs = search needs
-
-loop-holds : tie.Need-loop-holds Inv-loop μ-loop
-loop-holds c = search needs
-
-argument-most-requires : tie.Need-argument-most-requires Inv-loop μ-loop
-argument-most-requires c κs = search needs
-
-add-field : tie.Need-add-field Inv-loop μ-loop
-add-field c = search needs
-
-field-requires : tie.Need-field-requires Inv-loop μ-loop
-field-requires c κs = search needs
-
-of-kind-requires : tie.Need-of-kind-requires Inv-loop μ-loop
-of-kind-requires c κs = search needs
-
-add-i : tie.Need-add-i Inv-loop μ-loop
-add-i c = search needs
-
-loop-less : tie.Need-loop-less Inv-loop μ-loop
-loop-less c = search needs
 
 loop-again : tie.Need-loop-again Inv-loop μ-loop
 loop-again c =
@@ -80,14 +50,14 @@ misfit-spec =
     (tie.spec
     Inv-loop
     μ-loop
-    argument-count-requires
-    loop-holds
-    argument-most-requires
-    add-field
-    field-requires
-    of-kind-requires
-    add-i
-    loop-less
+    (λ c κs. search needs)
+    (λ c. search needs)
+    (λ c κs. search needs)
+    (λ c. search needs)
+    (λ c κs. search needs)
+    (λ c κs. search needs)
+    (λ c. search needs)
+    (λ c. search needs)
     loop-again
     returns
     returns-2)

@@ -3,15 +3,6 @@ use Rattle.orders.specs.Orders.{surplusFlaw}
 use borrow.Author.Tests.{lt-leb, le-leb}
 use Rattle.orders.proofs.judge.surplus_flaw.Statement.{statement}
 use Rattle.orders.proofs.judge.surplus_flaw.Tie as tie
-use Rattle.orders.proofs.judge.surplus_flaw.Reads as reads
-use Rattle.orders.proofs.judge.surplus_flaw.Lts as lts
-use Rattle.reading.proofs.count.Reads as count-reads
-
-count-requires : tie.Need-count-requires
-count-requires c κs = search needs
-
-add-t6 : tie.Need-add-t6
-add-t6 c = search needs
 
 returns : tie.Need-returns
 unfolding surplusFlaw
@@ -22,4 +13,4 @@ unfolding surplusFlaw
 returns-2 c = rw (← c .before .count .ensures, lt-leb _ _ (c .if1 .left))
 
 pub surplus-flaw-spec : {M : Type 1} → statement M
-surplus-flaw-spec = tie.close (tie.spec count-requires add-t6 returns returns-2)
+surplus-flaw-spec = tie.close (tie.spec (λ c κs. search needs) (λ c. search needs) returns returns-2)

@@ -4,12 +4,6 @@ use native.Mathlib.Omega.{arith}
 use mathlib.Core.Path.{_≡_, _∙_}
 use Rattle.orders.proofs.kinds.argument_count.Statement.{statement}
 use Rattle.orders.proofs.kinds.argument_count.Tie as tie
-use Rattle.orders.proofs.kinds.argument_count.Reads as reads
-use Rattle.orders.proofs.kinds.argument_count.Lts as lts
-use Rattle.outcomes.proofs.row_of.Reads as row-of-reads
-
-row-of-requires : tie.Need-row-of-requires
-row-of-requires c κs = search needs
 
 mul-result : tie.Need-mul-result
 mul-result c = let w = rows (c .before .args .o) .within in omega (arith, c .row-of .ensures)
@@ -23,4 +17,4 @@ returns c =
     rw (c .row-of .ensures) (r .count, rw (r .count) (r .few))
 
 pub argument-count-spec : {M : Type 1} → statement M
-argument-count-spec = tie.close (tie.spec row-of-requires mul-result array-read-result returns)
+argument-count-spec = tie.close (tie.spec (λ c κs. search needs) mul-result array-read-result returns)

@@ -3,32 +3,6 @@ use Rattle.printing.proofs.Appending.{then}
 use native.Mathlib.Omega.{arith}
 use Rattle.orders.proofs.words.put_wrong.Statement.{statement}
 use Rattle.orders.proofs.words.put_wrong.Tie as tie
-use Rattle.orders.proofs.words.put_wrong.Reads as reads
-use Rattle.orders.proofs.words.put_wrong.Lts as lts
-use Rattle.orders.proofs.words.put_expected.Reads as put-expected-reads
-use Rattle.orders.proofs.words.put_place.Reads as put-place-reads
-use Rattle.printing.proofs.put.Reads as put-reads
-
-put-place-requires : tie.Need-put-place-requires
-put-place-requires c κs = search needs
-
-slice-aggregate-put : tie.Need-slice-aggregate-put
-slice-aggregate-put c = search needs
-
-put-requires : tie.Need-put-requires
-put-requires c κs = search needs
-
-put-expected-requires : tie.Need-put-expected-requires
-put-expected-requires c κs = search needs
-
-slice-aggregate-put-2 : tie.Need-slice-aggregate-put-2
-slice-aggregate-put-2 c = search needs
-
-put-requires-2 : tie.Need-put-requires-2
-put-requires-2 c κs = search needs
-
-same-length : tie.Need-same-length
-same-length c = search needs
 
 returns : tie.Need-returns
 returns c =
@@ -42,11 +16,11 @@ pub put-wrong-spec : {M : Type 1} → statement M
 put-wrong-spec =
     tie.close
     (tie.spec
-    put-place-requires
-    slice-aggregate-put
-    put-requires
-    put-expected-requires
-    slice-aggregate-put-2
-    put-requires-2
-    same-length
+    (λ c κs. search needs)
+    (λ c. search needs)
+    (λ c κs. search needs)
+    (λ c κs. search needs)
+    (λ c. search needs)
+    (λ c κs. search needs)
+    (λ c. search needs)
     returns)

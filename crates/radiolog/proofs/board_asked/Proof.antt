@@ -1,0 +1,28 @@
+use borrow.Author.Needs.{needs}
+use Prim.Native.Nat.{_-_}
+use Rattle.radiolog.proofs.board_asked.Statement.{statement}
+use Rattle.radiolog.proofs.board_asked.Tie as tie
+
+abbrev Inv-loop : tie.InvT-loop
+Inv-loop count board₀ i₀ board i = Unit {0}
+
+abbrev μ-loop : tie.MeasureT-loop
+μ-loop count board₀ i₀ board i = count - i
+
+pub board-asked-spec : {M : Type 1} → statement M
+board-asked-spec =
+    tie.close
+    (tie.spec
+    Inv-loop
+    μ-loop
+    (λ c κs. search needs)
+    (λ c κs. search needs)
+    (λ c. search needs)
+    (λ c κs. search needs)
+    (λ c. search needs)
+    (λ c. search needs)
+    (λ c. search needs)
+    (λ c. search needs)
+    (λ c. search needs)
+    (λ c. search needs)
+    (λ c. search needs))
