@@ -10,7 +10,9 @@ use libc::EACCES;
 use libc::EISDIR;
 use libc::ENOENT;
 use libc::STDERR_FILENO;
+use libc::STDIN_FILENO;
 use libc::STDOUT_FILENO;
+use reading::same;
 
 pub(crate) enum Input {
     Whole(usize),
@@ -37,7 +39,11 @@ fn read_all(fd: i32, buf: &mut [u8]) -> Input
 }
 
 fn voice(a: Asked) -> i32 {
-    if a.aloud { STDOUT_FILENO } else { STDERR_FILENO }
+    if a.aloud {
+        STDOUT_FILENO
+    } else {
+        STDERR_FILENO
+    }
 }
 
 fn say(a: Asked, name: &[u8], text: &[u8]) {
@@ -77,26 +83,45 @@ pub fn show_input(a: Asked, name: &[u8], fd: i32) {
     let mut buf = io::large_buffer();
     match read_all(fd, &mut buf) {
         Input::Whole(n) => show_text(a, name, &buf[..n]),
-        Input::More => say(a, name, b"more than 65535 bytes, and no hex text of an image is so long\n"),
+        Input::More => say(
+            a,
+            name,
+            b"more than 65535 bytes, and no hex text of an image is so long\n",
+        ),
         Input::Failed => say_unread(a, name),
     }
 }
 
-// With its name before it, and an empty line between two files.
+// The name of a file before its link, and an empty line between two files.
+fn print_name(name: &[u8], first: bool) {
+    if !first {
+        io::write_all(STDOUT_FILENO, b"\n");
+    }
+    io::write_all(STDOUT_FILENO, b"file              ");
+    io::write_all(STDOUT_FILENO, name);
+    io::write_all(STDOUT_FILENO, b"\n");
+}
+
+// The file of that name is opened; `-` is standard input.
+fn opened(name: &[u8]) -> i32 {
+    if same(name, b"-") {
+        STDIN_FILENO
+    } else {
+        os::open_read(name)
+    }
+}
+
 pub fn show_file(a: Asked, name: &[u8], first: bool) {
-    let fd = os::open_read(name);
+    if !a.table {
+        print_name(name, first);
+    }
+    let fd = opened(name);
     if fd < 0 {
         say_unread(a, name);
         return;
     }
-    if !a.table {
-        if !first {
-            io::write_all(STDOUT_FILENO, b"\n");
-        }
-        io::write_all(STDOUT_FILENO, b"file              ");
-        io::write_all(STDOUT_FILENO, name);
-        io::write_all(STDOUT_FILENO, b"\n");
-    }
     show_input(a, name, fd);
-    libc::close(fd);
+    if fd != STDIN_FILENO {
+        libc::close(fd);
+    }
 }

@@ -11,10 +11,43 @@ use libc::STDOUT_FILENO;
 use words::Asked;
 use words::is_file;
 
-const USAGE: &[u8] = b"usage: linkread [1272|1276 [tcxo] [boost] [rxboost]] [-t] [-e] [-h] [FILE ..]\n";
+fn usage(fd: i32) {
+    io::write_all(
+        fd,
+        b"usage: linkread [1272|1276 [tcxo] [boost] [rxboost]] [-t] [-e] [-h] [FILE ..]\n",
+    );
+}
 
-fn help() {
-    io::write_all(STDOUT_FILENO, USAGE);
+fn help_on_input() {
+    let fd = STDOUT_FILENO;
+    io::write_all(
+        fd,
+        b"Shows the link that a pack's 128 registers hold, read from files or from standard input:\n",
+    );
+    io::write_all(
+        fd,
+        b"128 raw bytes, or hex text, two digits a byte, 0x before a byte or not, white space between bytes or none.\n",
+    );
+    io::write_all(
+        fd,
+        b"Input of 128 bytes is raw unless each is a hex digit, white space or x; all other input is hex text.\n",
+    );
+    io::write_all(fd, b"Without 1272 or 1276 every board is tried.\n");
+}
+
+fn help_on_options() {
+    let fd = STDOUT_FILENO;
+    io::write_all(
+        fd,
+        b"-t  rows of a table, parted by tabs: file, chip, tcxo, boost, and then 0, public, sf, bandwidth in Hz,\n",
+    );
+    io::write_all(
+        fd,
+        b"    n of the coding rate 4/n, hz, preamble, implicit, crc, iq, power in dBm; or 27, the register that\n",
+    );
+    io::write_all(fd, b"    rules a link out, and what it holds\n");
+    io::write_all(fd, b"-e  messages on standard output, among the rest\n");
+    io::write_all(fd, b"-h  this text\n");
 }
 
 // Shows the file that an argument names; the other arguments say how.
@@ -39,13 +72,15 @@ fn show_files(a: Asked) {
 }
 
 fn main() {
-    let a = words::asked();
+    let a = words::all_words();
     if a.help {
-        help();
+        usage(STDOUT_FILENO);
+        help_on_input();
+        help_on_options();
         return;
     }
     if a.wrong {
-        io::write_all(STDERR_FILENO, USAGE);
+        usage(STDERR_FILENO);
         return;
     }
     if a.files {

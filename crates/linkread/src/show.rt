@@ -73,7 +73,11 @@ fn show_ruled_out(a: Asked, name: &[u8], image: &[u8], board: Board, o: Oscillat
 }
 
 fn board_of(chip: u16, tcxo_used: bool, tx_boost: bool, rx_boost: bool) -> Board {
-    let variant = if chip == 1272 { Variant::Sx1272 } else { Variant::Sx1276 };
+    let variant = if chip == 1272 {
+        Variant::Sx1272
+    } else {
+        Variant::Sx1276
+    };
     Board {
         variant,
         tcxo_used,
@@ -86,7 +90,11 @@ fn show_board(a: Asked, name: &[u8], image: &[u8])
     requires { ⌜ length (now image) ≡ 128 ⌝ }
 {
     let board = board_of(a.chip, a.tcxo, a.boost, a.rx_boost);
-    let o = if a.tcxo { Oscillator::Tcxo } else { Oscillator::Crystal };
+    let o = if a.tcxo {
+        Oscillator::Tcxo
+    } else {
+        Oscillator::Crystal
+    };
     match read_link(image, board) {
         LinkAnswer::Found(l) => show_link(a, name, image, board, o, l),
         LinkAnswer::Refused(_) => show_ruled_out(a, name, image, board, o),
@@ -108,7 +116,11 @@ fn show_possible(a: Asked, name: &[u8], image: &[u8], chip: u16, boost: bool) ->
     let board = board_of(chip, false, boost, false);
     let with = board_of(chip, true, boost, false);
     let also = holds_link(image, with);
-    let o = if also { Oscillator::Either } else { Oscillator::Crystal };
+    let o = if also {
+        Oscillator::Either
+    } else {
+        Oscillator::Crystal
+    };
     match read_link(image, board) {
         LinkAnswer::Found(l) => {
             show_link(a, name, image, board, o, l);
@@ -126,7 +138,13 @@ fn show_possible(a: Asked, name: &[u8], image: &[u8], chip: u16, boost: bool) ->
 fn show_impossible(a: Asked, name: &[u8], image: &[u8], chip: u16, boost: bool)
     requires { ⌜ length (now image) ≡ 128 ⌝ }
 {
-    show_ruled_out(a, name, image, board_of(chip, false, boost, false), Oscillator::Either);
+    show_ruled_out(
+        a,
+        name,
+        image,
+        board_of(chip, false, boost, false),
+        Oscillator::Either,
+    );
 }
 
 // Every board is tried; where none is possible, each is shown with what rules it out.

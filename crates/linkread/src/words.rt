@@ -90,7 +90,7 @@ fn settled(asked: Asked) -> Asked {
     a
 }
 
-pub fn asked() -> Asked {
+pub fn all_words() -> Asked {
     let count = os::arg_count();
     let mut a = Asked {
         chip: 0,

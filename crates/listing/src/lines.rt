@@ -99,9 +99,21 @@ fn put_modem(l: Link, out: &mut [u8], at: usize) -> usize
     ensures { λ r. ⌜ Appended (modemLines l) at (now (out .entry)) r (now (out .exit)) ⌝ }
     ensures { λ r. ⌜ r ≤ at + 180 ⌝ }
 {
-    let at = put_counted(b"spreading factor  ", l.spreading_factor as u64, b"\n", out, at);
+    let at = put_counted(
+        b"spreading factor  ",
+        l.spreading_factor as u64,
+        b"\n",
+        out,
+        at,
+    );
     let at = put_bandwidth(l.bandwidth, out, at);
-    put_counted(b"coding rate       4/", l.coding_rate as u64 + 4, b"\n", out, at)
+    put_counted(
+        b"coding rate       4/",
+        l.coding_rate as u64 + 4,
+        b"\n",
+        out,
+        at,
+    )
 }
 
 fn put_packet(l: Link, out: &mut [u8], at: usize) -> usize
@@ -116,7 +128,13 @@ fn put_packet(l: Link, out: &mut [u8], at: usize) -> usize
         out,
         at,
     );
-    let at = put_choice(l.crc_on, b"CRC               on\n", b"CRC               off\n", out, at);
+    let at = put_choice(
+        l.crc_on,
+        b"CRC               on\n",
+        b"CRC               off\n",
+        out,
+        at,
+    );
     let at = put_choice(
         l.iq_inverted,
         b"IQ                inverted\n",
@@ -124,7 +142,13 @@ fn put_packet(l: Link, out: &mut [u8], at: usize) -> usize
         out,
         at,
     );
-    put_counted(b"preamble          ", l.preamble_length as u64, b" symbols\n", out, at)
+    put_counted(
+        b"preamble          ",
+        l.preamble_length as u64,
+        b" symbols\n",
+        out,
+        at,
+    )
 }
 
 fn put_power(power: i32, out: &mut [u8], at: usize) -> usize

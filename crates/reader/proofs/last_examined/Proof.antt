@@ -27,8 +27,7 @@ sub-reader-order c = omega (arith, some c)
 returns : tie.Need-returns
 returns c =
     let e = c .before in
-    let b = e .before .before .args .board in
-    (
+    let b = e .before .before .args .board in (
       record { count = e .examined .result; examined = e .examined .ensures; register = c .reader-order .ensures },
       rw (c .reader-order .ensures) (order-lt (b .variant) (e .examined .result - 1) (in-order e)),
     )

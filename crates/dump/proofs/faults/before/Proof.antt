@@ -4,17 +4,12 @@ use lib.Seq.{take-all, length-take-le}
 use mathlib.Core.Path.{_≡_, refl, sym, ap, _∙_}
 use Rattle.dump.proofs.faults.before.Statement.{statement}
 use Rattle.dump.proofs.faults.before.Tie as tie
-use Rattle.dump.proofs.faults.before.Reads as reads
-use Rattle.dump.proofs.faults.before.Lts as lts
 
 slice-aggregate-result : tie.Need-slice-aggregate-result
 slice-aggregate-result c = sym (length-take-le _ _ (omega arith))
-
-returns : tie.Need-returns
-returns c = search needs
 
 returns-2 : tie.Need-returns-2
 returns-2 c = sym (take-all _ _ (c .if1 .left))
 
 pub before-spec : {M : Type 1} → statement M
-before-spec = tie.close (tie.spec slice-aggregate-result returns returns-2)
+before-spec = tie.close (tie.spec slice-aggregate-result (λ c. search needs) returns-2)

@@ -3,41 +3,6 @@ use Rattle.printing.proofs.Appending.{then, same}
 use native.Mathlib.Omega.{arith}
 use Rattle.dump.proofs.faults.put_place.Statement.{statement}
 use Rattle.dump.proofs.faults.put_place.Tie as tie
-use Rattle.dump.proofs.faults.put_place.Reads as reads
-use Rattle.dump.proofs.faults.put_place.Lts as lts
-use Rattle.dump.proofs.spot.spot_behind.Reads as spot-behind-reads
-use Rattle.printing.proofs.put.Reads as put-reads
-use Rattle.printing.proofs.put_decimal.Reads as put-decimal-reads
-
-spot-behind-requires : tie.Need-spot-behind-requires
-spot-behind-requires c κs = search needs
-
-slice-aggregate-put : tie.Need-slice-aggregate-put
-slice-aggregate-put c = search needs
-
-put-requires : tie.Need-put-requires
-put-requires c κs = search needs
-
-put-decimal-requires : tie.Need-put-decimal-requires
-put-decimal-requires c κs = search needs
-
-slice-aggregate-put-2 : tie.Need-slice-aggregate-put-2
-slice-aggregate-put-2 c = search needs
-
-put-requires-2 : tie.Need-put-requires-2
-put-requires-2 c κs = search needs
-
-put-decimal-requires-2 : tie.Need-put-decimal-requires-2
-put-decimal-requires-2 c κs = search needs
-
-slice-aggregate-put-3 : tie.Need-slice-aggregate-put-3
-slice-aggregate-put-3 c = search needs
-
-put-requires-3 : tie.Need-put-requires-3
-put-requires-3 c κs = search needs
-
-same-length : tie.Need-same-length
-same-length c = search needs
 
 returns : tie.Need-returns
 returns c =
@@ -52,14 +17,14 @@ pub put-place-spec : {M : Type 1} → statement M
 put-place-spec =
     tie.close
     (tie.spec
-    spot-behind-requires
-    slice-aggregate-put
-    put-requires
-    put-decimal-requires
-    slice-aggregate-put-2
-    put-requires-2
-    put-decimal-requires-2
-    slice-aggregate-put-3
-    put-requires-3
-    same-length
+    (λ c κs. search needs)
+    (λ c. search needs)
+    (λ c κs. search needs)
+    (λ c κs. search needs)
+    (λ c. search needs)
+    (λ c κs. search needs)
+    (λ c κs. search needs)
+    (λ c. search needs)
+    (λ c κs. search needs)
+    (λ c. search needs)
     returns)

@@ -3,23 +3,6 @@ use Rattle.printing.proofs.Appending.{then, same}
 use native.Mathlib.Omega.{arith}
 use Rattle.listing.proofs.lines.put_board.Statement.{statement}
 use Rattle.listing.proofs.lines.put_board.Tie as tie
-use Rattle.listing.proofs.lines.put_board.Reads as reads
-use Rattle.listing.proofs.lines.put_board.Lts as lts
-use Rattle.listing.proofs.lines.put_boost.Reads as put-boost-reads
-use Rattle.listing.proofs.lines.put_chip.Reads as put-chip-reads
-use Rattle.listing.proofs.lines.put_oscillator.Reads as put-oscillator-reads
-
-put-chip-requires : tie.Need-put-chip-requires
-put-chip-requires c κs = search needs
-
-put-boost-requires : tie.Need-put-boost-requires
-put-boost-requires c κs = search needs
-
-put-oscillator-requires : tie.Need-put-oscillator-requires
-put-oscillator-requires c κs = search needs
-
-same-length : tie.Need-same-length
-same-length c = search needs
 
 returns : tie.Need-returns
 returns c =
@@ -31,4 +14,4 @@ returns c =
 pub put-board-spec : {M : Type 1} → statement M
 put-board-spec =
     tie.close
-    (tie.spec put-chip-requires put-boost-requires put-oscillator-requires same-length returns)
+    (tie.spec (λ c κs. search needs) (λ c κs. search needs) (λ c κs. search needs) (λ c. search needs) returns)

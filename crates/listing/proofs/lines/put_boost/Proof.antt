@@ -4,18 +4,6 @@ use Rattle.printing.proofs.Appending.{then, same}
 use native.Mathlib.Omega.{arith}
 use Rattle.listing.proofs.lines.put_boost.Statement.{statement}
 use Rattle.listing.proofs.lines.put_boost.Tie as tie
-use Rattle.listing.proofs.lines.put_boost.Reads as reads
-use Rattle.listing.proofs.lines.put_boost.Lts as lts
-use Rattle.printing.proofs.put.Reads as put-reads
-
-slice-aggregate-put : tie.Need-slice-aggregate-put
-slice-aggregate-put c = search needs
-
-put-requires : tie.Need-put-requires
-put-requires c κs = search needs
-
-same-length : tie.Need-same-length
-same-length c = search needs
 
 returns : tie.Need-returns
 returns c =
@@ -27,4 +15,4 @@ returns-2 c = (rw (c .if1 .left) (nothing _ _ (omega arith)), omega arith)
 
 pub put-boost-spec : {M : Type 1} → statement M
 put-boost-spec =
-    tie.close (tie.spec slice-aggregate-put put-requires same-length returns returns-2)
+    tie.close (tie.spec (λ c. search needs) (λ c κs. search needs) (λ c. search needs) returns returns-2)

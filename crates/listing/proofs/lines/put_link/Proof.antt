@@ -10,31 +10,6 @@ use Rattle.printing.proofs.Appending.{then, same}
 use native.Mathlib.Omega.{arith}
 use Rattle.listing.proofs.lines.put_link.Statement.{statement}
 use Rattle.listing.proofs.lines.put_link.Tie as tie
-use Rattle.listing.proofs.lines.put_link.Reads as reads
-use Rattle.listing.proofs.lines.put_link.Lts as lts
-use Rattle.listing.proofs.lines.put_modem.Reads as put-modem-reads
-use Rattle.listing.proofs.lines.put_packet.Reads as put-packet-reads
-use Rattle.listing.proofs.lines.put_pin.Reads as put-pin-reads
-use Rattle.listing.proofs.lines.put_power.Reads as put-power-reads
-use Rattle.listing.proofs.lines.put_sync.Reads as put-sync-reads
-
-put-sync-requires : tie.Need-put-sync-requires
-put-sync-requires c κs = search needs
-
-put-modem-requires : tie.Need-put-modem-requires
-put-modem-requires c κs = search needs
-
-put-packet-requires : tie.Need-put-packet-requires
-put-packet-requires c κs = search needs
-
-put-power-requires : tie.Need-put-power-requires
-put-power-requires c κs = search needs
-
-put-pin-requires : tie.Need-put-pin-requires
-put-pin-requires c κs = search needs
-
-same-length : tie.Need-same-length
-same-length c = search needs
 
 returns : tie.Need-returns
 unfolding linkLines
@@ -52,10 +27,10 @@ pub put-link-spec : {M : Type 1} → statement M
 put-link-spec =
     tie.close
     (tie.spec
-    put-sync-requires
-    put-modem-requires
-    put-packet-requires
-    put-power-requires
-    put-pin-requires
-    same-length
+    (λ c κs. search needs)
+    (λ c κs. search needs)
+    (λ c κs. search needs)
+    (λ c κs. search needs)
+    (λ c κs. search needs)
+    (λ c. search needs)
     returns)

@@ -10,23 +10,6 @@ use Rattle.printing.proofs.Appending.{then, same}
 use native.Mathlib.Omega.{arith}
 use Rattle.listing.proofs.rows.put_link_fields.Statement.{statement}
 use Rattle.listing.proofs.rows.put_link_fields.Tie as tie
-use Rattle.listing.proofs.rows.put_link_fields.Reads as reads
-use Rattle.listing.proofs.rows.put_link_fields.Lts as lts
-use Rattle.listing.proofs.rows.put_last.Reads as put-last-reads
-use Rattle.listing.proofs.rows.put_modem_fields.Reads as put-modem-fields-reads
-use Rattle.listing.proofs.rows.put_packet_fields.Reads as put-packet-fields-reads
-
-put-modem-fields-requires : tie.Need-put-modem-fields-requires
-put-modem-fields-requires c κs = search needs
-
-put-packet-fields-requires : tie.Need-put-packet-fields-requires
-put-packet-fields-requires c κs = search needs
-
-put-last-requires : tie.Need-put-last-requires
-put-last-requires c κs = search needs
-
-same-length : tie.Need-same-length
-same-length c = search needs
 
 returns : tie.Need-returns
 returns c =
@@ -41,8 +24,8 @@ pub put-link-fields-spec : {M : Type 1} → statement M
 put-link-fields-spec =
     tie.close
     (tie.spec
-    put-modem-fields-requires
-    put-packet-fields-requires
-    put-last-requires
-    same-length
+    (λ c κs. search needs)
+    (λ c κs. search needs)
+    (λ c κs. search needs)
+    (λ c. search needs)
     returns)
