@@ -6,7 +6,7 @@ use crate::words::Asked;
 use libc::STDOUT_FILENO;
 use link::last_examined;
 use link::read_link;
-use listing::Oscillator;
+use link_text::Oscillator;
 use params::answers::LinkAnswer;
 use params::mod_params::Link;
 use registers::board::Board;
@@ -21,31 +21,31 @@ pub fn write_part(fd: i32, text: &[u8], n: usize)
 fn print_link(board: Board, o: Oscillator, pa_config: u8, l: Link) {
     let variant = board.variant;
     let mut out = [0u8; 1024];
-    let at = listing::put_board(variant, board.tx_boost, o, &mut out, 0);
-    let n = listing::put_link(board.tx_boost, pa_config, l, &mut out, at);
+    let at = link_text::put_board(variant, board.tx_boost, o, &mut out, 0);
+    let n = link_text::put_link(board.tx_boost, pa_config, l, &mut out, at);
     write_part(STDOUT_FILENO, &out, n);
 }
 
 fn print_ruled_out(board: Board, o: Oscillator, register: u8, value: u8) {
     let variant = board.variant;
     let mut out = [0u8; 256];
-    let at = listing::put_board(variant, board.tx_boost, o, &mut out, 0);
-    let n = listing::put_ruled_out(register, value, &mut out, at);
+    let at = link_text::put_board(variant, board.tx_boost, o, &mut out, 0);
+    let n = link_text::put_ruled_out(register, value, &mut out, at);
     write_part(STDOUT_FILENO, &out, n);
 }
 
 fn print_link_row(name: &[u8], board: Board, l: Link) {
     let mut out = [0u8; 1024];
-    let at = listing::put_board_fields(board, 0, &mut out, 0);
-    let n = listing::put_link_fields(l, &mut out, at);
+    let at = link_text::put_board_fields(board, 0, &mut out, 0);
+    let n = link_text::put_link_fields(l, &mut out, at);
     io::write_all(STDOUT_FILENO, name);
     write_part(STDOUT_FILENO, &out, n);
 }
 
 fn print_ruled_out_row(name: &[u8], board: Board, register: u8, value: u8) {
     let mut out = [0u8; 512];
-    let at = listing::put_board_fields(board, 27, &mut out, 0);
-    let n = listing::put_ruled_out_fields(register, value, &mut out, at);
+    let at = link_text::put_board_fields(board, 27, &mut out, 0);
+    let n = link_text::put_ruled_out_fields(register, value, &mut out, at);
     io::write_all(STDOUT_FILENO, name);
     write_part(STDOUT_FILENO, &out, n);
 }
