@@ -1,5 +1,6 @@
 // Dumps of a pack's registers: raw bytes or hex text, found out by looking. What an input holds is said by the definitions in specs/.
 mod characters;
+mod faults;
 mod spot;
 mod text;
 
@@ -8,6 +9,7 @@ ghost use Prim.Native.Nat.{_≤_};
 ghost use lib.ListN.{length};
 ghost use Rattle.dump.specs.Dump.{isRaw, readOf, leftOf};
 use characters::could_be_hex;
+pub use faults::put_fault;
 pub use spot::Spot;
 pub use spot::spot_behind;
 pub use text::Read;

@@ -1,4 +1,5 @@
 // Links: whole programming and the reader under one name. Demand 3 stands in proofs/Demand3.antt.
 pub use programming::program;
 pub use reader::examined;
+pub use reader::last_examined;
 pub use reader::read_link;

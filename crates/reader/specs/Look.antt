@@ -2,8 +2,10 @@
 use mathlib.Core.Path.{_≡_}
 use mathlib.Core.Bool.{true, false}
 use mathlib.Core.List.{List}
-use Prim.Native.Nat.{ℕ, _≤_, _<_}
+use Prim.Native.Nat.{ℕ, _-_, _≤_, _<_}
 use lib.Dec.{T}
+use lib.ListN.{getD}
+use Rattle.sheets.specs.Reader.{readerOrder}
 use Rattle.registers.specs.declared.board.Board.{Board}
 use Rattle.page.specs.Page.{guess as guessed, first, fits}
 use Rattle.lora_page.specs.Lora.{page}
@@ -19,6 +21,12 @@ pub record Examined (b : Board) (im : List ℕ) (r : ℕ) : Type 0 where
   pub within : r ≤ registers b
   pub before : (n : ℕ) → n < r → Fit b im n
   pub last : Fit b im r → r ≡ registers b
+
+-- r is the address of the last of these registers in the reader's order
+pub record LastExamined (b : Board) (im : List ℕ) (r : ℕ) : Type 0 where
+  pub count : ℕ
+  pub examined : Examined b im count
+  pub register : r ≡ getD (readerOrder (b .variant) true) (count - 1) 0
 
 -- a look tells as much, with the guess from these values and whether they fit
 pub record Looked (b : Board) (im : List ℕ) (k : Seen) : Type 0 where

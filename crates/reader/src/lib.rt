@@ -13,7 +13,7 @@ ghost use Rattle.page.specs.Page.{read};
 ghost use Rattle.lora_page.specs.Lora.{blank, page};
 ghost use Rattle.lora_page.specs.Reading.{tellsReading, readLink};
 ghost use Rattle.reader.specs.Tests.{registers, alike, keeps, fitsSoFar};
-ghost use Rattle.reader.specs.Look.{Examined, Looked};
+ghost use Rattle.reader.specs.Look.{Examined, LastExamined, Looked};
 use acceptance::link_refusal;
 use guess::learn;
 use params::answers::LinkAnswer;
@@ -153,6 +153,17 @@ pub fn examined(image: &[u8], board: Board) -> usize
 {
     let seen = look(image, board);
     seen.examined
+}
+
+// The last register that the reader looks at: on an image that is no link, the one that rules it out.
+pub fn last_examined(image: &[u8], board: Board) -> u8
+    requires { ⌜ length (now image) ≡ 128 ⌝ }
+    ensures { λ r. ⌜ LastExamined board (now (image .entry)) r ⌝ }
+    ensures { λ r. ⌜ r < 128 ⌝ }
+{
+    let variant = board.variant;
+    let n = examined(image, board);
+    variant.reader_order(n - 1)
 }
 
 pub fn read_link(image: &[u8], board: Board) -> LinkAnswer

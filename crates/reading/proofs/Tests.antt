@@ -1,9 +1,9 @@
--- Tests that are made together, and a test of each element of a text, as a loop makes it.
+-- Tests that are made together, a test of each element of a text, as a loop makes it, and what stands past a text's end.
 -- Assumes nothing.
 use mathlib.Core.Path.{_≡_, refl}
-use mathlib.Core.List.{List}
+use mathlib.Core.List.{List, [], _∷_}
 use mathlib.Core.Bool.{Bool, true, false, _&&_}
-use Prim.Native.Nat.{ℕ, suc, _+_, _<_}
+use Prim.Native.Nat.{ℕ, zero, suc, _+_, _≤_, _<_}
 use native.Mathlib.Numerals.{add-one}
 use native.Mathlib.Omega.{arith}
 use lib.ListN.{length, drop, getD}
@@ -24,3 +24,9 @@ module _ (p : ℕ → Bool) (s : List ℕ) (i : ℕ) (h : i < length s) where
 
   pub fails : p (getD s i 0) ≡ false → all p (drop i s) ≡ false
   fails e = rw (drop-cons s i 0, e)
+
+-- past the end there is 0
+pub past : (s : List ℕ) (i : ℕ) → length s ≤ i → getD s i 0 ≡ 0
+past [] i h = refl
+past (x ∷ s) zero h = absurd (omega arith)
+past (x ∷ s) (suc i) h = past s i (omega arith)

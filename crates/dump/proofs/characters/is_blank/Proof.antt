@@ -2,8 +2,6 @@ use borrow.Author.Needs.{needs}
 use borrow.Author.Tests.{eq-eqb, ne-eqb, le-leb, lt-leb}
 use Rattle.dump.proofs.characters.is_blank.Statement.{statement}
 use Rattle.dump.proofs.characters.is_blank.Tie as tie
-use Rattle.dump.proofs.characters.is_blank.Reads as reads
-use Rattle.dump.proofs.characters.is_blank.Lts as lts
 
 returns : tie.Need-returns
 returns c = rw (eq-eqb _ 32 (c .if1 .taken))

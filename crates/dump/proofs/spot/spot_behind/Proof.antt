@@ -10,8 +10,6 @@ use borrow.Author.Tests.{eq-eqb, ne-eqb, le-leb, lt-leb}
 use native.Mathlib.Omega.{arith}
 use Rattle.dump.proofs.spot.spot_behind.Statement.{statement}
 use Rattle.dump.proofs.spot.spot_behind.Tie as tie
-use Rattle.dump.proofs.spot.spot_behind.Reads as reads
-use Rattle.dump.proofs.spot.spot_behind.Lts as lts
 
 abbrev Inv-loop : tie.InvT-loop
 Inv-loop s line₀ column₀ i₀ line column i = (i ≤ length s) × (line ≤ i + 1) × (column ≤ i + 1) × (lineFrom line (drop i s) ≡ lineFrom 1 s) × (columnFrom column (drop i s) ≡ columnFrom 1 s)
@@ -21,21 +19,6 @@ abbrev μ-loop : tie.MeasureT-loop
 
 loop-holds : tie.Need-loop-holds Inv-loop μ-loop
 loop-holds c = (omega arith, omega arith, omega arith, refl, refl)
-
-shared-slice-read-if1 : tie.Need-shared-slice-read-if1 Inv-loop μ-loop
-shared-slice-read-if1 c = search needs
-
-add-line : tie.Need-add-line Inv-loop μ-loop
-add-line c = search needs
-
-add-column : tie.Need-add-column Inv-loop μ-loop
-add-column c = search needs
-
-add-i : tie.Need-add-i Inv-loop μ-loop
-add-i c = search needs
-
-loop-less : tie.Need-loop-less Inv-loop μ-loop
-loop-less c = search needs
 
 loop-again : tie.Need-loop-again Inv-loop μ-loop
 loop-again c =
@@ -62,10 +45,10 @@ spot-behind-spec =
     Inv-loop
     μ-loop
     loop-holds
-    shared-slice-read-if1
-    add-line
-    add-column
-    add-i
-    loop-less
+    (λ c. search needs)
+    (λ c. search needs)
+    (λ c. search needs)
+    (λ c. search needs)
+    (λ c. search needs)
     loop-again
     returns)

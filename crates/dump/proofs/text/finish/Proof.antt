@@ -7,18 +7,6 @@ use native.Mathlib.Omega.{arith}
 use mathlib.Core.Path.{_≡_, refl, sym, ap, _∙_}
 use Rattle.dump.proofs.text.finish.Statement.{statement}
 use Rattle.dump.proofs.text.finish.Tie as tie
-use Rattle.dump.proofs.text.finish.Reads as reads
-use Rattle.dump.proofs.text.finish.Lts as lts
-use Rattle.bytes.proofs.copy.Reads as copy-reads
-
-enum-told : tie.Need-enum-told
-enum-told c = search needs
-
-copy-requires : tie.Need-copy-requires
-copy-requires c κs = search needs
-
-same-length : tie.Need-same-length
-same-length c = search needs
 
 returns : tie.Need-returns
 returns c =
@@ -34,4 +22,4 @@ returns-3 : tie.Need-returns-3
 returns-3 c = let a = c .before .before .before .args in rw (arms.cut-off (a .state) (a .at) (a .n) (c .match .keys2)) (refl, refl)
 
 pub finish-spec : {M : Type 1} → statement M
-finish-spec = tie.close (tie.spec enum-told copy-requires same-length returns returns-2 returns-3)
+finish-spec = tie.close (tie.spec (λ c. search needs) (λ c κs. search needs) (λ c. search needs) returns returns-2 returns-3)

@@ -10,17 +10,6 @@ use native.Mathlib.Omega.{arith}
 use mathlib.Core.Path.{_≡_, refl, sym, ap, _∙_}
 use Rattle.dump.proofs.text.keep.Statement.{statement}
 use Rattle.dump.proofs.text.keep.Tie as tie
-use Rattle.dump.proofs.text.keep.Reads as reads
-use Rattle.dump.proofs.text.keep.Lts as lts
-
-enum-known-step : tie.Need-enum-known-step
-enum-known-step c = search needs
-
-slice-write-out : tie.Need-slice-write-out
-slice-write-out c = search needs
-
-add-result : tie.Need-add-result
-add-result c = search needs
 
 same-length : tie.Need-same-length
 same-length c = ⊎-elim (λ w. rw (w .1) (simp length-set)) (λ w. ap length (w .1)) (c .if1 .came)
@@ -40,4 +29,4 @@ returns-2 c = rw (arms.no-byte (c .before .args .step) (c .match .keys2)) (omega
 
 pub keep-spec : {M : Type 1} → statement M
 keep-spec =
-    tie.close (tie.spec enum-known-step slice-write-out add-result same-length returns returns-2)
+    tie.close (tie.spec (λ c. search needs) (λ c. search needs) (λ c. search needs) same-length returns returns-2)

@@ -2,26 +2,6 @@ use borrow.Author.Needs.{needs}
 use borrow.Author.Tests.{eq-eqb, ne-eqb, le-leb, lt-leb}
 use Rattle.dump.proofs.text.on_digit.Statement.{statement}
 use Rattle.dump.proofs.text.on_digit.Tie as tie
-use Rattle.dump.proofs.text.on_digit.Reads as reads
-use Rattle.dump.proofs.text.on_digit.Lts as lts
-
-enum-told : tie.Need-enum-told
-enum-told c = search needs
-
-enum-told-2 : tie.Need-enum-told-2
-enum-told-2 c = search needs
-
-enum-told-3 : tie.Need-enum-told-3
-enum-told-3 c = search needs
-
-enum-known-state : tie.Need-enum-known-state
-enum-known-state c = search needs
-
-mul-t12 : tie.Need-mul-t12
-mul-t12 c = search needs
-
-add-t14 : tie.Need-add-t14
-add-t14 c = search needs
 
 returns : tie.Need-returns
 returns c = rw (c .before .enum-told .given .1, eq-eqb _ 0 (c .if1 .taken))
@@ -42,12 +22,12 @@ pub on-digit-spec : {M : Type 1} → statement M
 on-digit-spec =
     tie.close
     (tie.spec
-    enum-told
-    enum-told-2
-    enum-told-3
-    enum-known-state
-    mul-t12
-    add-t14
+    (λ c. search needs)
+    (λ c. search needs)
+    (λ c. search needs)
+    (λ c. search needs)
+    (λ c. search needs)
+    (λ c. search needs)
     returns
     returns-2
     returns-3

@@ -16,12 +16,6 @@ use borrow.Author.Tests.{eq-eqb, ne-eqb, le-leb, lt-leb}
 use native.Mathlib.Omega.{arith}
 use Rattle.dump.proofs.text.read_text.Statement.{statement}
 use Rattle.dump.proofs.text.read_text.Tie as tie
-use Rattle.dump.proofs.text.read_text.Reads as reads
-use Rattle.dump.proofs.text.read_text.Lts as lts
-use Rattle.dump.proofs.text.finish.Reads as finish-reads
-use Rattle.dump.proofs.text.keep.Reads as keep-reads
-use Rattle.dump.proofs.text.next.Reads as next-reads
-use Rattle.dump.proofs.text.step_at.Reads as step-at-reads
 
 abbrev Inv-loop : tie.InvT-loop
 Inv-loop s image bytes₀ n₀ state₀ i₀ bytes n state i = (i ≤ length s) × (n ≤ i) × (128 ≡ length bytes) × (verdictFrom state i n (drop i s) ≡ textRead s) × (n ≤ 128 → take n bytes ++ bytesFrom state (drop i s) ≡ bytesFrom Between s)
@@ -31,15 +25,6 @@ abbrev μ-loop : tie.MeasureT-loop
 
 loop-holds : tie.Need-loop-holds Inv-loop μ-loop
 loop-holds c = (omega arith, omega arith, refl, refl, λ h. refl)
-
-shared-slice-read-step-at : tie.Need-shared-slice-read-step-at Inv-loop μ-loop
-shared-slice-read-step-at c = search needs
-
-step-at-requires : tie.Need-step-at-requires Inv-loop μ-loop
-step-at-requires c κs = search needs
-
-enum-told : tie.Need-enum-told Inv-loop μ-loop
-enum-told c = search needs
 
 returns : tie.Need-returns Inv-loop μ-loop
 returns c =
@@ -51,9 +36,6 @@ returns c =
     let v = sym (l .loop .inv .3) ∙ (rw (← k .step-at .ensures, c .enum-told .given .1) at more) in
     rw v (refl, refl)
 
-enum-told-2 : tie.Need-enum-told-2 Inv-loop μ-loop
-enum-told-2 c = search needs
-
 returns-2 : tie.Need-returns-2 Inv-loop μ-loop
 returns-2 c =
     let k = c .before .before in
@@ -63,21 +45,6 @@ returns-2 c =
     let more = turns.verdict-more s (l .loop .i) (t .loop-test .taken) (l .loop .state) (l .loop .n) in
     let v = sym (l .loop .inv .3) ∙ (rw (← k .step-at .ensures, c .enum-told2 .given .1) at more) in
     rw v (refl, refl)
-
-slice-aggregate-keep : tie.Need-slice-aggregate-keep Inv-loop μ-loop
-slice-aggregate-keep c = search needs
-
-keep-requires : tie.Need-keep-requires Inv-loop μ-loop
-keep-requires c κs = search needs
-
-next-requires : tie.Need-next-requires Inv-loop μ-loop
-next-requires c κs = search needs
-
-add-i : tie.Need-add-i Inv-loop μ-loop
-add-i c = search needs
-
-loop-less : tie.Need-loop-less Inv-loop μ-loop
-loop-less c = search needs
 
 loop-again : tie.Need-loop-again Inv-loop μ-loop
 loop-again c =
@@ -92,8 +59,7 @@ loop-again c =
     let was = take (l .loop .n) (l .loop .bytes) in
     let rest = drop (i + 1) s in
     let verdict = rw (← k .step-at .ensures) at (turns.verdict-more s i (t .loop-test .taken) (l .loop .state) (l .loop .n)) in
-    let bytes = rw (← k .step-at .ensures) at (turns.bytes-more s i (t .loop-test .taken) (l .loop .state)) in
-    (
+    let bytes = rw (← k .step-at .ensures) at (turns.bytes-more s i (t .loop-test .taken) (l .loop .state)) in (
       omega arith,
       omega (arith, p .keep .ensures .0, arms.at-most-one read),
       l .loop .inv .2 ∙ sym (p .keep .ensures .1),
@@ -106,14 +72,8 @@ loop-again c =
           ∙ l .loop .inv .4 (omega (arith, p .keep .ensures .0)),
     )
 
-slice-aggregate-finish : tie.Need-slice-aggregate-finish Inv-loop μ-loop
-slice-aggregate-finish c = search needs
-
 finish-requires : tie.Need-finish-requires Inv-loop μ-loop
 finish-requires c κs = omega arith
-
-same-length : tie.Need-same-length Inv-loop μ-loop
-same-length c = search needs
 
 returns-3 : tie.Need-returns-3 Inv-loop μ-loop
 returns-3 c =
@@ -124,8 +84,7 @@ returns-3 c =
     let s = now (a .s) in
     let none = drop-of-length-le s (e .loop-test .left) in
     let verdict = rw none at (l .loop .inv .3) in
-    let all : l .loop .n ≡ 128 → l .loop .bytes ≡ bytesFrom Between s = λ n. sym (turns.filled (l .loop .bytes) (l .loop .n) (n ∙ l .loop .inv .2)) ∙ (rw none at (l .loop .inv .4 (omega arith))) in
-    (
+    let all : l .loop .n ≡ 128 → l .loop .bytes ≡ bytesFrom Between s = λ n. sym (turns.filled (l .loop .bytes) (l .loop .n) (n ∙ l .loop .inv .2)) ∙ (rw none at (l .loop .inv .4 (omega arith))) in (
       f .finish .ensures .0 ∙ verdict,
       f .finish .ensures .1 ∙ arms.left-alike (l .loop .state) (l .loop .i) (l .loop .n) (l .loop .bytes) (bytesFrom Between s) (now (a .image)) all
           ∙ ap (λ (r : Read). leave r (bytesFrom Between s) (now (a .image))) verdict,
@@ -138,19 +97,19 @@ read-text-spec =
     Inv-loop
     μ-loop
     loop-holds
-    shared-slice-read-step-at
-    step-at-requires
-    enum-told
+    (λ c. search needs)
+    (λ c κs. search needs)
+    (λ c. search needs)
     returns
-    enum-told-2
+    (λ c. search needs)
     returns-2
-    slice-aggregate-keep
-    keep-requires
-    next-requires
-    add-i
-    loop-less
+    (λ c. search needs)
+    (λ c κs. search needs)
+    (λ c κs. search needs)
+    (λ c. search needs)
+    (λ c. search needs)
     loop-again
-    slice-aggregate-finish
+    (λ c. search needs)
     finish-requires
-    same-length
+    (λ c. search needs)
     returns-3)

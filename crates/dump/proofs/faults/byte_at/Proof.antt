@@ -1,0 +1,12 @@
+use borrow.Author.Needs.{needs}
+use denote.Ref.{now}
+use Rattle.reading.proofs.Tests.{past}
+use mathlib.Core.Path.{_≡_, refl, sym, ap, _∙_}
+use Rattle.dump.proofs.faults.byte_at.Statement.{statement}
+use Rattle.dump.proofs.faults.byte_at.Tie as tie
+
+returns-2 : tie.Need-returns-2
+returns-2 c = let a = c .before .args in sym (past (now (a .s)) (a .at) (c .if1 .left))
+
+pub byte-at-spec : {M : Type 1} → statement M
+byte-at-spec = tie.close (tie.spec (λ c. search needs) (λ c. search needs) returns-2)

@@ -1,0 +1,13 @@
+use borrow.Author.Needs.{needs}
+use Rattle.reading.proofs.Tests.{past}
+use Rattle.sheets.specs.Modem.{bandwidths}
+use mathlib.Core.Path.{_≡_, refl, sym, ap, _∙_}
+use Rattle.link_text.proofs.numbers.hertz_of.Statement.{statement}
+use Rattle.link_text.proofs.numbers.hertz_of.Tie as tie
+
+returns-2 : tie.Need-returns-2
+unfolding bandwidths
+returns-2 c = sym (past bandwidths _ (c .if1 .left))
+
+pub hertz-of-spec : {M : Type 1} → statement M
+hertz-of-spec = tie.close (tie.spec (λ c κs. search needs) (λ c. search needs) returns-2)

@@ -1,0 +1,224 @@
+// A line for each setting.
+ghost use mathlib.Core.Path.{_≡_};
+ghost use mathlib.Core.List.{_++_};
+ghost use Prim.Native.Nat.{_+_, _≤_, _<_, _^_};
+ghost use lib.ListN.{length};
+ghost use Rattle.sheets.specs.Frequency.{steps, frfMsb, frfMid, frfLsb};
+ghost use Rattle.reading.specs.Words.{ascii};
+ghost use Rattle.printing.specs.Text.{Appended};
+ghost use Rattle.link_text.specs.Numbers.{counted, megahertz, bytesText};
+ghost use Rattle.link_text.specs.Lines.{chipText, boostText, oscillatorText, boardLine, syncLine, stepText, frequencyLine, bandwidthLine, modemLines, packetLines, powerLine, pinLine, linkLines, ruledOutLine};
+use crate::Oscillator;
+use crate::numbers::hertz_of;
+use crate::numbers::put_byte;
+use crate::numbers::put_bytes;
+use crate::numbers::put_choice;
+use crate::numbers::put_counted;
+use crate::numbers::put_kilohertz;
+use crate::numbers::put_megahertz;
+use params::mod_params::Link;
+use printing::put;
+use printing::put_signed;
+use sheets::Variant;
+use units::Hertz;
+
+fn put_chip(variant: Variant, out: &mut [u8], at: usize) -> usize
+    requires { ⌜ at + 30 ≤ length (now out) ⌝ }
+    ensures { λ r. ⌜ Appended (chipText variant) at (now (out .entry)) r (now (out .exit)) ⌝ }
+    ensures { λ r. ⌜ r ≤ at + 30 ⌝ }
+{
+    match variant {
+        Variant::Sx1272 => put(b"board             SX1272", out, at),
+        Variant::Sx1276 => put(b"board             SX1276", out, at),
+    }
+}
+
+fn put_boost(boost: bool, out: &mut [u8], at: usize) -> usize
+    requires { ⌜ at + 10 ≤ length (now out) ⌝ }
+    ensures { λ r. ⌜ Appended (boostText boost) at (now (out .entry)) r (now (out .exit)) ⌝ }
+    ensures { λ r. ⌜ r ≤ at + 10 ⌝ }
+{
+    if boost { put(b", boost", out, at) } else { at }
+}
+
+fn put_oscillator(o: Oscillator, out: &mut [u8], at: usize) -> usize
+    requires { ⌜ at + 30 ≤ length (now out) ⌝ }
+    ensures { λ r. ⌜ Appended (oscillatorText o) at (now (out .entry)) r (now (out .exit)) ⌝ }
+    ensures { λ r. ⌜ r ≤ at + 30 ⌝ }
+{
+    match o {
+        Oscillator::Crystal => put(b"\n", out, at),
+        Oscillator::Tcxo => put(b", TCXO\n", out, at),
+        Oscillator::Either => put(b", with or without TCXO\n", out, at),
+    }
+}
+
+pub fn put_board(variant: Variant, boost: bool, o: Oscillator, out: &mut [u8], at: usize) -> usize
+    requires { ⌜ at + 70 ≤ length (now out) ⌝ }
+    ensures { λ r. ⌜ Appended (boardLine variant boost o) at (now (out .entry)) r (now (out .exit)) ⌝ }
+    ensures { λ r. ⌜ r ≤ at + 70 ⌝ }
+{
+    let at = put_chip(variant, out, at);
+    let at = put_boost(boost, out, at);
+    put_oscillator(o, out, at)
+}
+
+fn put_step(hz: Hertz, out: &mut [u8], at: usize) -> usize
+    requires { ⌜ at + 70 ≤ length (now out) ⌝ }
+    ensures { λ r. ⌜ Appended (stepText (hz .0)) at (now (out .entry)) r (now (out .exit)) ⌝ }
+    ensures { λ r. ⌜ r ≤ at + 70 ⌝ }
+{
+    let count = hz.steps();
+    let at = put_counted(b" MHz (step ", count.0 as u64, b", registers ", out, at);
+    let at = put_bytes(count.frf_msb(), count.frf_mid(), count.frf_lsb(), out, at);
+    put(b")\n", out, at)
+}
+
+fn put_frequency(hz: Hertz, out: &mut [u8], at: usize) -> usize
+    requires { ⌜ at + 120 ≤ length (now out) ⌝ }
+    ensures { λ r. ⌜ Appended (frequencyLine (hz .0)) at (now (out .entry)) r (now (out .exit)) ⌝ }
+    ensures { λ r. ⌜ r ≤ at + 120 ⌝ }
+{
+    let at = put(b"frequency         ", out, at);
+    let at = put_megahertz(hz.0, out, at);
+    put_step(hz, out, at)
+}
+
+fn put_bandwidth(bw: u8, out: &mut [u8], at: usize) -> usize
+    requires { ⌜ at + 60 ≤ length (now out) ⌝ }
+    ensures { λ r. ⌜ Appended (bandwidthLine bw) at (now (out .entry)) r (now (out .exit)) ⌝ }
+    ensures { λ r. ⌜ r ≤ at + 60 ⌝ }
+{
+    let at = put(b"bandwidth         ", out, at);
+    let at = put_kilohertz(hertz_of(bw), out, at);
+    put(b" kHz\n", out, at)
+}
+
+fn put_modem(l: Link, out: &mut [u8], at: usize) -> usize
+    requires { ⌜ at + 180 ≤ length (now out) ⌝ }
+    ensures { λ r. ⌜ Appended (modemLines l) at (now (out .entry)) r (now (out .exit)) ⌝ }
+    ensures { λ r. ⌜ r ≤ at + 180 ⌝ }
+{
+    let at = put_counted(
+        b"spreading factor  ",
+        l.spreading_factor as u64,
+        b"\n",
+        out,
+        at,
+    );
+    let at = put_bandwidth(l.bandwidth, out, at);
+    put_counted(
+        b"coding rate       4/",
+        l.coding_rate as u64 + 4,
+        b"\n",
+        out,
+        at,
+    )
+}
+
+fn put_packet(l: Link, out: &mut [u8], at: usize) -> usize
+    requires { ⌜ at + 180 ≤ length (now out) ⌝ }
+    ensures { λ r. ⌜ Appended (packetLines l) at (now (out .entry)) r (now (out .exit)) ⌝ }
+    ensures { λ r. ⌜ r ≤ at + 180 ⌝ }
+{
+    let at = put_choice(
+        l.implicit_header,
+        b"header            implicit\n",
+        b"header            explicit\n",
+        out,
+        at,
+    );
+    let at = put_choice(
+        l.crc_on,
+        b"CRC               on\n",
+        b"CRC               off\n",
+        out,
+        at,
+    );
+    let at = put_choice(
+        l.iq_inverted,
+        b"IQ                inverted\n",
+        b"IQ                normal\n",
+        out,
+        at,
+    );
+    put_counted(
+        b"preamble          ",
+        l.preamble_length as u64,
+        b" symbols\n",
+        out,
+        at,
+    )
+}
+
+fn put_power(power: i32, out: &mut [u8], at: usize) -> usize
+    requires { ⌜ at + 50 ≤ length (now out) ⌝ }
+    ensures { λ r. ⌜ Appended (powerLine power) at (now (out .entry)) r (now (out .exit)) ⌝ }
+    ensures { λ r. ⌜ r ≤ at + 50 ⌝ }
+{
+    let at = put(b"power             ", out, at);
+    let at = put_signed(power, out, at);
+    put(b" dBm\n", out, at)
+}
+
+// Below 0 dBm the Rust sets PaSelect on a board without boost.
+fn put_pin(boost: bool, pa_config: u8, out: &mut [u8], at: usize) -> usize
+    requires { ⌜ at + 90 ≤ length (now out) ⌝ }
+    ensures { λ r. ⌜ Appended (pinLine boost «pa_config») at (now (out .entry)) r (now (out .exit)) ⌝ }
+    ensures { λ r. ⌜ r ≤ at + 90 ⌝ }
+{
+    if pa_config < 128 {
+        return put(b"output pin        RFO\n", out, at);
+    }
+    if boost {
+        return put(b"output pin        PA_BOOST\n", out, at);
+    }
+    put(
+        b"output pin        PA_BOOST by the register, though the board has no boost\n",
+        out,
+        at,
+    )
+}
+
+fn put_sync(l: Link, out: &mut [u8], at: usize) -> usize
+    requires { ⌜ at + 160 ≤ length (now out) ⌝ }
+    ensures { λ r. ⌜ Appended (syncLine l ++ frequencyLine (l .frequency .0)) at (now (out .entry)) r (now (out .exit)) ⌝ }
+    ensures { λ r. ⌜ r ≤ at + 160 ⌝ }
+{
+    let hz = l.frequency;
+    let at = put_choice(
+        l.public_network,
+        b"sync word         0x34 (public)\n",
+        b"sync word         0x12 (private)\n",
+        out,
+        at,
+    );
+    put_frequency(hz, out, at)
+}
+
+// A link that was read from an image with this RegPaConfig.
+pub fn put_link(boost: bool, pa_config: u8, l: Link, out: &mut [u8], at: usize) -> usize
+    requires { ⌜ at + 660 ≤ length (now out) ⌝ }
+    ensures { λ r. ⌜ Appended (linkLines boost «pa_config» l) at (now (out .entry)) r (now (out .exit)) ⌝ }
+    ensures { λ r. ⌜ r ≤ at + 660 ⌝ }
+{
+    let power = l.power;
+    let at = put_sync(l, out, at);
+    let at = put_modem(l, out, at);
+    let at = put_packet(l, out, at);
+    let at = put_power(power, out, at);
+    put_pin(boost, pa_config, out, at)
+}
+
+// The register that rules a link out, and what it holds.
+pub fn put_ruled_out(register: u8, value: u8, out: &mut [u8], at: usize) -> usize
+    requires { ⌜ at + 70 ≤ length (now out) ⌝ }
+    ensures { λ r. ⌜ Appended (ruledOutLine register value) at (now (out .entry)) r (now (out .exit)) ⌝ }
+    ensures { λ r. ⌜ r ≤ at + 70 ⌝ }
+{
+    let at = put(b"no link           27 NotALink: register 0x", out, at);
+    let at = put_byte(register, out, at);
+    let at = put(b" holds 0x", out, at);
+    let at = put_byte(value, out, at);
+    put(b"\n", out, at)
+}

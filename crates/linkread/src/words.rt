@@ -1,0 +1,112 @@
+// What the command line asks: a board, a form, files.
+use board_words::Word;
+use board_words::board_word;
+use reading::same;
+
+// The chip is 0 where no word names one. Wrong is a word that is none of these, a second chip, or what a board has without a chip.
+pub struct Asked {
+    pub chip: u16,
+    pub tcxo: bool,
+    pub boost: bool,
+    pub rx_boost: bool,
+    pub table: bool,
+    pub aloud: bool,
+    pub files: bool,
+    pub help: bool,
+    pub wrong: bool,
+}
+
+fn is_option(word: &[u8]) -> bool {
+    if word.len() < 2 {
+        return false;
+    }
+    word[0] == b'-'
+}
+
+// A word that says nothing of a board and is no option names a file.
+pub fn is_file(word: &[u8]) -> bool {
+    match board_word(word) {
+        Word::Other => !is_option(word),
+        _ => false,
+    }
+}
+
+fn with_chip(asked: Asked, chip: u16) -> Asked {
+    let mut a = asked;
+    if a.chip != 0 {
+        a.wrong = true;
+    }
+    a.chip = chip;
+    a
+}
+
+fn with_option(asked: Asked, word: &[u8]) -> Asked {
+    let mut a = asked;
+    if !is_option(word) {
+        a.files = true;
+    } else if same(word, b"-t") {
+        a.table = true;
+    } else if same(word, b"-e") {
+        a.aloud = true;
+    } else if same(word, b"-h") {
+        a.help = true;
+    } else {
+        a.wrong = true;
+    }
+    a
+}
+
+fn with_word(asked: Asked, word: &[u8]) -> Asked {
+    let mut a = asked;
+    match board_word(word) {
+        Word::Sx1272 => return with_chip(a, 1272),
+        Word::Sx1276 => return with_chip(a, 1276),
+        Word::Tcxo => a.tcxo = true,
+        Word::Boost => a.boost = true,
+        Word::RxBoost => a.rx_boost = true,
+        Word::Other => return with_option(a, word),
+    }
+    a
+}
+
+fn with_argument(asked: Asked, i: usize) -> Asked {
+    let mut word = io::buffer();
+    let n = os::arg(i, &mut word);
+    if os::errno() == 0 {
+        return with_word(asked, &word[..n]);
+    }
+    let mut a = asked;
+    a.wrong = true;
+    a
+}
+
+fn settled(asked: Asked) -> Asked {
+    let mut a = asked;
+    if a.chip == 0 {
+        if a.tcxo || a.boost || a.rx_boost {
+            a.wrong = true;
+        }
+    }
+    a
+}
+
+pub fn all_words() -> Asked {
+    let count = os::arg_count();
+    let mut a = Asked {
+        chip: 0,
+        tcxo: false,
+        boost: false,
+        rx_boost: false,
+        table: false,
+        aloud: false,
+        files: false,
+        help: false,
+        wrong: false,
+    };
+    let mut i = 1;
+    while i < count {
+        a = with_argument(a, i);
+        i += 1;
+    }
+    settled(a)
+}
