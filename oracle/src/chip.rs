@@ -44,6 +44,12 @@ impl Chip {
         &self.log[..self.used]
     }
 
+    /// Forgets the records; registers and FIFO stay.
+    pub fn rewind(&mut self) {
+        self.used = 0;
+        self.unwaited = None;
+    }
+
     fn append(&mut self, kind: u8, address: u8, data: u8) {
         assert!(self.used < self.log.len(), "mock: more than {RECORDS} records");
         self.log[self.used..self.used + 3].copy_from_slice(&[kind, address, data]);

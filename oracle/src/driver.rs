@@ -28,9 +28,14 @@ pub struct Question<'a> {
 
 /// Asks the Rust; an error is the message of its panic.
 pub fn ask(question: &Question, chip: &RefCell<Chip>, buffer: &mut [u8]) -> Result<Answer, String> {
+    caught(|| answer(question, chip, buffer))
+}
+
+/// As `ask`, where the Rust does not panic.
+pub fn answer(question: &Question, chip: &RefCell<Chip>, buffer: &mut [u8]) -> Answer {
     let Board { variant, tcxo_used, tx_boost, rx_boost } = question.board;
     let (spi, pins) = (Spi(chip), Pins(chip));
-    caught(|| match variant {
+    let result = match variant {
         Variant::Sx1272 => {
             let mut radio = Sx127x::new(spi, pins, Config { chip: Sx1272, tcxo_used, tx_boost, rx_boost });
             block_on(perform(&mut radio, question, buffer))
@@ -39,11 +44,11 @@ pub fn ask(question: &Question, chip: &RefCell<Chip>, buffer: &mut [u8]) -> Resu
             let mut radio = Sx127x::new(spi, pins, Config { chip: Sx1276, tcxo_used, tx_boost, rx_boost });
             block_on(perform(&mut radio, question, buffer))
         }
-    })
-    .map(|result| match result {
+    };
+    match result {
         Ok(values) => Answer { number: 0, values },
         Err(error) => told(error),
-    })
+    }
 }
 
 async fn perform(

@@ -3,6 +3,8 @@ pub mod call;
 pub mod chip;
 pub mod driver;
 pub mod library;
+#[cfg(feature = "library")]
+pub mod linked;
 pub mod maker;
 pub mod random;
 pub mod reader;

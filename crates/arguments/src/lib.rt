@@ -82,9 +82,7 @@ fn none(s: &[u8]) -> bool
 fn fit_program(s: &[u8]) -> bool
     ensures { λ r. ⌜ r ≡ fitOf (kindsOf Operation.Program) (now (s .entry)) ⌝ }
 {
-    let kinds = [
-        BYTE, BYTE, BYTE, BYTE, HERTZ, WORD, BYTE, BYTE, BYTE, POWER,
-    ];
+    let kinds = [BYTE, BYTE, BYTE, BYTE, HERTZ, WORD, BYTE, BYTE, BYTE, POWER];
     fit(s, &kinds)
 }
 

@@ -44,7 +44,12 @@ pub fn found(w: &[u8], name: &[u8], o: Operation, rest: Named) -> Named
 fn modes(w: &[u8], rest: Named) -> Named
     ensures { λ r. ⌜ r ≡ among (now (w .entry)) modesOf rest ⌝ }
 {
-    let n = found(w, b"set_tx_continuous_wave_mode", Operation::SetTxContinuousWaveMode, rest);
+    let n = found(
+        w,
+        b"set_tx_continuous_wave_mode",
+        Operation::SetTxContinuousWaveMode,
+        rest,
+    );
     let n = found(w, b"do_cad", Operation::DoCad, n);
     let n = found(w, b"do_rx", Operation::DoRx, n);
     let n = found(w, b"do_tx", Operation::DoTx, n);
@@ -71,10 +76,30 @@ fn settings(w: &[u8], rest: Named) -> Named
     let n = found(w, b"read_link", Operation::ReadLink, rest);
     let n = found(w, b"program", Operation::Program, n);
     let n = found(w, b"set_channel", Operation::SetChannel, n);
-    let n = found(w, b"set_modulation_params", Operation::SetModulationParams, n);
-    let n = found(w, b"create_modulation_params", Operation::CreateModulationParams, n);
-    let n = found(w, b"set_tx_power_and_ramp_time", Operation::SetTxPowerAndRampTime, n);
-    let n = found(w, b"set_tx_rx_buffer_base_address", Operation::SetTxRxBufferBaseAddress, n);
+    let n = found(
+        w,
+        b"set_modulation_params",
+        Operation::SetModulationParams,
+        n,
+    );
+    let n = found(
+        w,
+        b"create_modulation_params",
+        Operation::CreateModulationParams,
+        n,
+    );
+    let n = found(
+        w,
+        b"set_tx_power_and_ramp_time",
+        Operation::SetTxPowerAndRampTime,
+        n,
+    );
+    let n = found(
+        w,
+        b"set_tx_rx_buffer_base_address",
+        Operation::SetTxRxBufferBaseAddress,
+        n,
+    );
     found(w, b"init_lora", Operation::InitLora, n)
 }
 

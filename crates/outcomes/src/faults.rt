@@ -49,7 +49,8 @@ fn put_wanted(o: Operation, out: &mut [u8], at: usize) -> usize
     ensures { λ r. ⌜ r ≤ at + 300 ⌝ }
 {
     let at = put(b"field 6: expected arguments: ", out, at);
-    let table = b"-\tpublic\tsf bw cr hz\tpreamble implicit payload_length crc iq sf\ttx rx\tpower is_tx_prep\tsf bw cr optimize\tpreamble implicit payload_length crc iq\thz\trxmode n\tmode rxmode\tmode rxmode clear\tpublic sf bw cr hz preamble implicit crc iq power";
+    let table =
+        b"-\tpublic\tsf bw cr hz\tpreamble implicit payload_length crc iq sf\ttx rx\tpower is_tx_prep\tsf bw cr optimize\tpreamble implicit payload_length crc iq\thz\trxmode n\tmode rxmode\tmode rxmode clear\tpublic sf bw cr hz preamble implicit crc iq power";
     put(field(table, b'\t', row_of(o)), out, at)
 }
 

@@ -130,10 +130,8 @@ module _ (b : Board) where
   unfolding fits
   begins im = joined (accepted (b .variant) blank) true (lawful b .starts) tt
 
-  pub refuses : (n : ℕ) (im : List ℕ) (t : Link) → Image im → n ≤ registers b → t ≡ guess (first (page b) n) im → fitsSoFar b t n im ≡ false
-      → read (page b) im ≡ notASetting
-  refuses n im t I h e unfit =
-      refused-early (page b) (lawful b) n im (omega (arith, registers-are)) (λ f. subst T unfit (so-far t n im I h e .1 f))
+  pub refuses : (n : ℕ) (im : List ℕ) → n ≤ registers b → ¬ T (fits (first (page b) n) im) → read (page b) im ≡ notASetting
+  refuses n im h unfit = refused-early (page b) (lawful b) n im (omega (arith, registers-are)) unfit
 
   pub finds : (n : ℕ) (im : List ℕ) (t : Link) → n ≡ registers b → t ≡ guess (first (page b) n) im → T (fits (first (page b) n) im) → read (page b) im ≡ found t
   finds n im t h e f =

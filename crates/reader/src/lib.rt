@@ -13,6 +13,7 @@ ghost use Rattle.page.specs.Page.{read};
 ghost use Rattle.lora_page.specs.Lora.{blank, page};
 ghost use Rattle.lora_page.specs.Reading.{tellsReading, readLink};
 ghost use Rattle.reader.specs.Tests.{registers, alike, keeps, fitsSoFar};
+ghost use Rattle.reader.specs.Look.{Examined, Looked};
 use acceptance::link_refusal;
 use guess::learn;
 use params::answers::LinkAnswer;
@@ -23,6 +24,13 @@ use programming::write_link;
 use registers::board::Board;
 use sheets::Variant;
 use units::Hertz;
+
+// The guess from the registers looked at so far, how many they are, and whether it fits them.
+struct Seen {
+    guess: Link,
+    examined: usize,
+    fits: bool,
+}
 
 // How many registers of the order a board has.
 fn registers(board: Board) -> usize
@@ -97,24 +105,54 @@ fn blank() -> Link
     }
 }
 
-fn read_registers(image: &[u8], board: Board) -> LinkAnswer
+// Looks at one register after the other for as long as the guess fits them.
+fn look(image: &[u8], board: Board) -> Seen
     requires { ⌜ length (now image) ≡ 128 ⌝ }
-    ensures { λ r. ⌜ tellsLink r ≡ tellsReading (read (page board) (now (image .entry))) ⌝ }
+    ensures { λ r. ⌜ Looked board (now (image .entry)) r ⌝ }
 {
     let variant = board.variant;
-    let n = registers(board);
-    let first = blank();
-    let mut guess = first;
+    let count = registers(board);
+    let mut guess = blank();
     let mut i = 0;
-    while i < n {
+    while i < count {
         let register = variant.reader_order(i);
         guess = learn(guess, board, register, image[register as usize]);
         i += 1;
         if !fits(image, board, guess, i) {
-            return LinkAnswer::Refused(RadioError::NotALink);
+            return Seen {
+                guess,
+                examined: i,
+                fits: false,
+            };
         }
     }
-    LinkAnswer::Found(guess)
+    Seen {
+        guess,
+        examined: i,
+        fits: true,
+    }
+}
+
+fn read_registers(image: &[u8], board: Board) -> LinkAnswer
+    requires { ⌜ length (now image) ≡ 128 ⌝ }
+    ensures { λ r. ⌜ tellsLink r ≡ tellsReading (read (page board) (now (image .entry))) ⌝ }
+{
+    let seen = look(image, board);
+    let guess = seen.guess;
+    if seen.fits {
+        LinkAnswer::Found(guess)
+    } else {
+        LinkAnswer::Refused(RadioError::NotALink)
+    }
+}
+
+// How many registers the reader looks at: on an image that is no link, the last of them is the one that rules it out.
+pub fn examined(image: &[u8], board: Board) -> usize
+    requires { ⌜ length (now image) ≡ 128 ⌝ }
+    ensures { λ r. ⌜ Examined board (now (image .entry)) r ⌝ }
+{
+    let seen = look(image, board);
+    seen.examined
 }
 
 pub fn read_link(image: &[u8], board: Board) -> LinkAnswer

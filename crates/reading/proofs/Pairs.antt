@@ -2,15 +2,18 @@
 -- Assumes nothing.
 use mathlib.Core.Path.{_≡_, refl, sym, ap, _∙_}
 use mathlib.Core.List.{List, [], _∷_, _++_, append-assoc, append-nil}
-use mathlib.Core.Bool.{true, _&&_}
-use Prim.Native.Nat.{ℕ, suc, _+_, _*_, _-_, _≤_, _<_}
+use mathlib.Core.Bool.{Bool, true, false, cond, _&&_}
+use Prim.Native.Nat.{ℕ, suc, _+_, _*_, _/_, _≤_, _<_}
 use native.Mathlib.Numerals.{add-one}
 use native.Mathlib.Omega.{arith}
 use borrow.Author.Tests.{leb-true}
 use lib.Dec.{leb}
 use lib.ListN.{length, take, drop, getD, set, take-append-drop, length-drop}
 use lib.Seq.{drop-cons, take-suc-set, drop-set-lt, drop-drop}
-use Rattle.reading.specs.Hex.{nibble, bytesOf}
+use Rattle.reading.specs.declared.hex.Case.{Case}
+use Rattle.reading.specs.declared.hex.Bytes.{Bytes}
+use Rattle.reading.specs.declared.hex.Bytes.the-variants.{Are, NotHex, Over}
+use Rattle.reading.specs.Hex.{ten, nibble, hexDigits, bytesOf, bytesRead}
 use Rattle.reading.proofs.Tests.{and-true}
 
 -- two bounds that were tested together
@@ -43,3 +46,20 @@ behind out out₀ i v e =
 
 pub whole : (out out₀ bytes : List ℕ) (i : ℕ) → take i out ++ [] ≡ bytes → drop i out ≡ drop i out₀ → out ≡ bytes ++ drop i out₀
 whole out out₀ bytes i e d = rw (← e, append-nil, ← d) (sym (take-append-drop i out))
+
+-- ---- what was read has room
+
+are : {m n : ℕ} → Are m ≡ Are n → m ≡ n
+are e = cc
+
+by-room : (n room : ℕ) (t : Bool) → leb n room ≡ t → {k : ℕ} → Are k ≡ cond t (Are n) Over → k ≤ room
+by-room n room true h e = let l = leb-true n room h in let k = are e in omega arith
+by-room n room false h e = absurd (let z : _≡_ {A = ℕ} 0 1 = cc in omega arith)
+
+by-digits : (d : Bool) (n room : ℕ) {k : ℕ} → Are k ≡ cond d (cond (leb n room) (Are n) Over) NotHex → k ≤ room
+by-digits true n room e = by-room n room (leb n room) refl e
+by-digits false n room e = absurd (let z : _≡_ {A = ℕ} 0 1 = cc in omega arith)
+
+pub roomy : (c : Case) (s : List ℕ) (room k : ℕ) → Are k ≡ bytesRead c s room → k ≤ room
+unfolding bytesRead
+roomy c s room k e = by-digits (hexDigits (ten c) s) (length s / 2) room e

@@ -38,7 +38,8 @@ fn is_letter(b: u8, a: u8) -> bool
     b - a <= 5
 }
 
-fn is_nibble(b: u8, a: u8) -> bool
+// A digit where the letter a stands for ten.
+pub fn is_nibble(b: u8, a: u8) -> bool
     ensures { λ r. ⌜ r ≡ isNibble a b ⌝ }
 {
     if is_digit(b) {
@@ -48,7 +49,7 @@ fn is_nibble(b: u8, a: u8) -> bool
 }
 
 // What a digit is worth, 0 where it is none.
-fn nibble(b: u8, a: u8) -> u8
+pub fn nibble(b: u8, a: u8) -> u8
     ensures { λ r. ⌜ (r ≡ nibbleOf a b) × (r ≤ 15) ⌝ }
 {
     if is_digit(b) {

@@ -13,5 +13,7 @@ pub use fields::field;
 pub use hex::Bytes;
 pub use hex::Case;
 pub use hex::is_hex;
+pub use hex::is_nibble;
+pub use hex::nibble;
 pub use hex::read_hex;
 pub use words::same;

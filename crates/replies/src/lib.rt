@@ -40,9 +40,7 @@ pub fn put_refusal(e: RadioError, out: &mut [u8], at: usize) -> usize
     let at = put_decimal(e.number() as u64, out, at);
     match e {
         RadioError::OpError(code) => put_values(&[code as u64], out, at),
-        RadioError::InvalidBaseAddress(tx, rx) => {
-            put_values(&[tx as u64, rx as u64], out, at)
-        }
+        RadioError::InvalidBaseAddress(tx, rx) => { put_values(&[tx as u64, rx as u64], out, at) }
         RadioError::PayloadSizeUnexpected(length) => put_values(&[length as u64], out, at),
         RadioError::PayloadSizeMismatch(length, room) => {
             put_values(&[length as u64, room as u64], out, at)

@@ -1,10 +1,10 @@
 // Calls as lines of text: whether a line is a call, and what is wrong with it first where it is none.
 ghost use mathlib.Core.Path.{_≡_};
 ghost use Rattle.requests.specs.Flaws.{orElse, checked, isEither, isLent, flagFlaw, bytesFlaw, headFlaw, askedFlaw, lentFlaw, usedFlaw, flawOf};
-use commands::Named;
-use commands::Operation;
 use arguments::arguments_fit;
 use arguments::is_number;
+use commands::Named;
+use commands::Operation;
 use commands::operation_named;
 use reading::Case;
 use reading::field;
@@ -85,7 +85,10 @@ fn flag_flaw(line: &[u8], k: usize, number: u8) -> Flaw
 fn head_flaw(line: &[u8]) -> Flaw
     ensures { λ r. ⌜ r ≡ headFlaw (now (line .entry)) ⌝ }
 {
-    let variant = check(either(field(line, TAB, 0), b"1272", b"1276"), Fault::Variant);
+    let variant = check(
+        either(field(line, TAB, 0), b"1272", b"1276"),
+        Fault::Variant,
+    );
     let boosts = flag_flaw(line, 2, 3).or(flag_flaw(line, 3, 4));
     variant.or(flag_flaw(line, 1, 2).or(boosts))
 }
@@ -96,10 +99,7 @@ fn asked_flaw(line: &[u8]) -> Flaw
 {
     match operation_named(field(line, TAB, 4)) {
         Named::Unknown => Flaw::Wrong(Fault::UnknownOperation),
-        Named::Known(o) => check(
-            arguments_fit(o, field(line, TAB, 5)),
-            Fault::Arguments(o),
-        ),
+        Named::Known(o) => check(arguments_fit(o, field(line, TAB, 5)), Fault::Arguments(o)),
     }
 }
 

@@ -1,21 +1,8 @@
+-- `arguments::is_signed` meets its contract: each arm is the definition's case.
+-- Assumes nothing.
 use borrow.Author.Needs.{needs}
 use Rattle.arguments.proofs.is_signed.Statement.{statement}
 use Rattle.arguments.proofs.is_signed.Tie as tie
-use Rattle.arguments.proofs.is_signed.Reads as reads
-use Rattle.arguments.proofs.is_signed.Lts as lts
-use Rattle.reading.proofs.read_signed.Reads as read-signed-reads
-
-read-signed-requires : tie.Need-read-signed-requires
-read-signed-requires c κs = search needs
-
-enum-told : tie.Need-enum-told
-enum-told c = search needs
-
-enum-told-2 : tie.Need-enum-told-2
-enum-told-2 c = search needs
-
-enum-told-3 : tie.Need-enum-told-3
-enum-told-3 c = search needs
 
 returns : tie.Need-returns
 returns c = rw (← c .before .before .read-signed .ensures, c .enum-told .given .1)
@@ -29,4 +16,4 @@ returns-3 c = rw (← c .before .before .read-signed .ensures, c .enum-told3 .gi
 pub is-signed-spec : {M : Type 1} → statement M
 is-signed-spec =
     tie.close
-    (tie.spec read-signed-requires enum-told enum-told-2 enum-told-3 returns returns-2 returns-3)
+    (tie.spec (λ c κs. search needs) (λ c. search needs) (λ c. search needs) (λ c. search needs) returns returns-2 returns-3)

@@ -1,3 +1,5 @@
+-- `arguments::number` meets its contract: each arm is the definition's case, and at most the largest.
+-- Assumes nothing.
 use borrow.Author.Needs.{needs}
 use mathlib.Core.Path.{_≡_}
 use native.Mathlib.Omega.{arith}
@@ -5,25 +7,6 @@ use Rattle.arguments.specs.Arguments.{argument}
 use Rattle.reading.proofs.Valued.{within}
 use Rattle.arguments.proofs.number.Statement.{statement}
 use Rattle.arguments.proofs.number.Tie as tie
-use Rattle.arguments.proofs.number.Reads as reads
-use Rattle.arguments.proofs.number.Lts as lts
-use Rattle.reading.proofs.read_number.Reads as read-number-reads
-use Rattle.reading.proofs.field.Reads as field-reads
-
-field-requires : tie.Need-field-requires
-field-requires c κs = search needs
-
-read-number-requires : tie.Need-read-number-requires
-read-number-requires c κs = search needs
-
-enum-known-n : tie.Need-enum-known-n
-enum-known-n c = search needs
-
-enum-told : tie.Need-enum-told
-enum-told c = search needs
-
-enum-told-2 : tie.Need-enum-told-2
-enum-told-2 c = search needs
 
 returns : tie.Need-returns
 unfolding argument
@@ -48,11 +31,11 @@ pub number-spec : {M : Type 1} → statement M
 number-spec =
     tie.close
     (tie.spec
-    field-requires
-    read-number-requires
-    enum-known-n
-    enum-told
-    enum-told-2
+    (λ c κs. search needs)
+    (λ c κs. search needs)
+    (λ c. search needs)
+    (λ c. search needs)
+    (λ c. search needs)
     returns
     returns-2
     returns-3)

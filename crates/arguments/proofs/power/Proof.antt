@@ -1,3 +1,5 @@
+-- `arguments::power` meets its contract: each arm is the definition's case.
+-- Assumes nothing.
 use borrow.Author.Needs.{needs}
 use mathlib.Core.Path.{_≡_}
 use Prim.Native.Nat.{_<_}
@@ -7,25 +9,6 @@ use mir.ValLaws.{toZ-ofZ}
 use Rattle.arguments.specs.Arguments.{signedArgument}
 use Rattle.arguments.proofs.power.Statement.{statement}
 use Rattle.arguments.proofs.power.Tie as tie
-use Rattle.arguments.proofs.power.Reads as reads
-use Rattle.arguments.proofs.power.Lts as lts
-use Rattle.reading.proofs.read_signed.Reads as read-signed-reads
-use Rattle.reading.proofs.field.Reads as field-reads
-
-field-requires : tie.Need-field-requires
-field-requires c κs = search needs
-
-read-signed-requires : tie.Need-read-signed-requires
-read-signed-requires c κs = search needs
-
-enum-known-n : tie.Need-enum-known-n
-enum-known-n c = search needs
-
-enum-told : tie.Need-enum-told
-enum-told c = search needs
-
-enum-told-2 : tie.Need-enum-told-2
-enum-told-2 c = search needs
 
 returns : tie.Need-returns
 unfolding signedArgument
@@ -50,11 +33,11 @@ pub power-spec : {M : Type 1} → statement M
 power-spec =
     tie.close
     (tie.spec
-    field-requires
-    read-signed-requires
-    enum-known-n
-    enum-told
-    enum-told-2
+    (λ c κs. search needs)
+    (λ c κs. search needs)
+    (λ c. search needs)
+    (λ c. search needs)
+    (λ c. search needs)
     returns
     returns-2
     returns-3)

@@ -1,51 +1,8 @@
+-- `commands::modes` meets its contract: each line is one step of the definition.
+-- Assumes nothing.
 use borrow.Author.Needs.{needs}
 use Rattle.commands.proofs.modes.Statement.{statement}
 use Rattle.commands.proofs.modes.Tie as tie
-use Rattle.commands.proofs.modes.Reads as reads
-use Rattle.commands.proofs.modes.Lts as lts
-use Rattle.commands.proofs.found.Reads as found-reads
-
-slice-aggregate-found : tie.Need-slice-aggregate-found
-slice-aggregate-found c = search needs
-
-found-requires : tie.Need-found-requires
-found-requires c κs = search needs
-
-slice-aggregate-found-2 : tie.Need-slice-aggregate-found-2
-slice-aggregate-found-2 c = search needs
-
-found-requires-2 : tie.Need-found-requires-2
-found-requires-2 c κs = search needs
-
-slice-aggregate-found-3 : tie.Need-slice-aggregate-found-3
-slice-aggregate-found-3 c = search needs
-
-found-requires-3 : tie.Need-found-requires-3
-found-requires-3 c κs = search needs
-
-slice-aggregate-found-4 : tie.Need-slice-aggregate-found-4
-slice-aggregate-found-4 c = search needs
-
-found-requires-4 : tie.Need-found-requires-4
-found-requires-4 c κs = search needs
-
-slice-aggregate-found-5 : tie.Need-slice-aggregate-found-5
-slice-aggregate-found-5 c = search needs
-
-found-requires-5 : tie.Need-found-requires-5
-found-requires-5 c κs = search needs
-
-slice-aggregate-found-6 : tie.Need-slice-aggregate-found-6
-slice-aggregate-found-6 c = search needs
-
-found-requires-6 : tie.Need-found-requires-6
-found-requires-6 c κs = search needs
-
-slice-aggregate-found-7 : tie.Need-slice-aggregate-found-7
-slice-aggregate-found-7 c = search needs
-
-found-requires-7 : tie.Need-found-requires-7
-found-requires-7 c κs = search needs
 
 returns : tie.Need-returns
 returns c =
@@ -55,18 +12,18 @@ pub modes-spec : {M : Type 1} → statement M
 modes-spec =
     tie.close
     (tie.spec
-    slice-aggregate-found
-    found-requires
-    slice-aggregate-found-2
-    found-requires-2
-    slice-aggregate-found-3
-    found-requires-3
-    slice-aggregate-found-4
-    found-requires-4
-    slice-aggregate-found-5
-    found-requires-5
-    slice-aggregate-found-6
-    found-requires-6
-    slice-aggregate-found-7
-    found-requires-7
+    (λ c. search needs)
+    (λ c κs. search needs)
+    (λ c. search needs)
+    (λ c κs. search needs)
+    (λ c. search needs)
+    (λ c κs. search needs)
+    (λ c. search needs)
+    (λ c κs. search needs)
+    (λ c. search needs)
+    (λ c κs. search needs)
+    (λ c. search needs)
+    (λ c κs. search needs)
+    (λ c. search needs)
+    (λ c κs. search needs)
     returns)

@@ -1,3 +1,5 @@
+-- `printing::magnitude` meets its contract: a number of 32 bits without its sign fits in 64.
+-- Assumes nothing.
 use borrow.Author.Needs.{needs}
 use mathlib.Core.Path.{_≡_}
 use mir.Syntax.{w32, w64}
@@ -5,8 +7,6 @@ use mir.ValLaws.{toZ-ofZ}
 use Rattle.printing.proofs.Signs.{wide, size-fits, at-least-zero, difference, difference-fits}
 use Rattle.printing.proofs.magnitude.Statement.{statement}
 use Rattle.printing.proofs.magnitude.Tie as tie
-use Rattle.printing.proofs.magnitude.Reads as reads
-use Rattle.printing.proofs.magnitude.Lts as lts
 
 cast-result : tie.Need-cast-result
 cast-result c = wide (c .before .args .n) (c .before .fits .n)

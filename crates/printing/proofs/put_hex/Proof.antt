@@ -1,3 +1,5 @@
+-- `printing::put_hex` meets its contract: what was written and the digits of what is left make up the whole.
+-- Assumes nothing.
 use borrow.Author.Needs.{needs}
 use mathlib.Core.Path.{_≡_, refl, sym, ap, _∙_}
 use mathlib.Core.List.{_∷_, _++_, append-assoc}
@@ -11,10 +13,6 @@ use Rattle.printing.proofs.Appending.{appended}
 use Rattle.printing.specs.Numbers.{hexFrom}
 use Rattle.printing.proofs.put_hex.Statement.{statement}
 use Rattle.printing.proofs.put_hex.Tie as tie
-use Rattle.printing.proofs.put_hex.Reads as reads
-use Rattle.printing.proofs.put_hex.Lts as lts
-use Rattle.printing.proofs.hex_digit.Reads as hex-digit-reads
-use Rattle.printing.proofs.ten.Reads as ten-reads
 
 abbrev Inv-loop : tie.InvT-loop
 Inv-loop s out₀ at a i₀ o₀ out i o =
@@ -23,38 +21,11 @@ Inv-loop s out₀ at a i₀ o₀ out i o =
 abbrev μ-loop : tie.MeasureT-loop
 μ-loop s out₀ at a i₀ o₀ out i o = length s - i
 
-ten-requires : tie.Need-ten-requires Inv-loop μ-loop
-ten-requires c κs = search needs
-
-loop-holds : tie.Need-loop-holds Inv-loop μ-loop
-loop-holds c = search needs
-
-shared-slice-read-b : tie.Need-shared-slice-read-b Inv-loop μ-loop
-shared-slice-read-b c = search needs
-
 hex-digit-requires : tie.Need-hex-digit-requires Inv-loop μ-loop
 hex-digit-requires c κs = let k = c .before in (omega (arith, c .shared-slice-known2 .given (k .before .loop .i)), k .before .loop .inv .5)
 
-slice-write-out : tie.Need-slice-write-out Inv-loop μ-loop
-slice-write-out c = search needs
-
-hex-digit-requires-2 : tie.Need-hex-digit-requires-2 Inv-loop μ-loop
-hex-digit-requires-2 c κs = search needs
-
-add-out : tie.Need-add-out Inv-loop μ-loop
-add-out c = search needs
-
 slice-write-out-2 : tie.Need-slice-write-out-2 Inv-loop μ-loop
 slice-write-out-2 c = simp length-set (omega arith)
-
-add-o : tie.Need-add-o Inv-loop μ-loop
-add-o c = search needs
-
-add-i : tie.Need-add-i Inv-loop μ-loop
-add-i c = search needs
-
-loop-less : tie.Need-loop-less Inv-loop μ-loop
-loop-less c = search needs
 
 loop-again : tie.Need-loop-again Inv-loop μ-loop
 loop-again c =
@@ -70,9 +41,6 @@ loop-again c =
     let n : l .o + 2 ≡ l .o + 1 + 1 = omega arith in
     let two = stored (set (l .out) (l .o) x) (l .o + 1) y (hexFrom t (drop (l .i + 1) s)) (simp length-set (omega arith)) ∙ stored (l .out) (l .o) x (y ∷ hexFrom t (drop (l .i + 1) s)) h in
     (omega arith, omega arith, simp length-set (l .inv .2), rw n (two ∙ rw (c .before .hex-digit .ensures, c .hex-digit2 .ensures, ← m) (l .inv .3)), rw n (behind _ (now (a .out)) (l .o + 1) y (behind _ (now (a .out)) (l .o) x (l .inv .4))), l .inv .5)
-
-same-length : tie.Need-same-length Inv-loop μ-loop
-same-length c = search needs
 
 returns : tie.Need-returns Inv-loop μ-loop
 returns c =
@@ -92,17 +60,17 @@ put-hex-spec =
     (tie.spec
     Inv-loop
     μ-loop
-    ten-requires
-    loop-holds
-    shared-slice-read-b
+    (λ c κs. search needs)
+    (λ c. search needs)
+    (λ c. search needs)
     hex-digit-requires
-    slice-write-out
-    hex-digit-requires-2
-    add-out
+    (λ c. search needs)
+    (λ c κs. search needs)
+    (λ c. search needs)
     slice-write-out-2
-    add-o
-    add-i
-    loop-less
+    (λ c. search needs)
+    (λ c. search needs)
+    (λ c. search needs)
     loop-again
-    same-length
+    (λ c. search needs)
     returns)

@@ -1,107 +1,28 @@
--- `reader::read_registers` meets its contract: the guess is that of the registers so far, and fits them.
+-- `reader::read_registers` meets its contract: where all the registers fit, the guess from them is the link.
 -- Assumes nothing.
 use borrow.Author.Needs.{needs}
-use mathlib.Core.Path.{_≡_, refl, sym, _∙_}
-use mathlib.Core.Bool.{true}
-use mathlib.Core.List.{List}
-use Prim.Native.Nat.{ℕ, suc, _+_, _-_, _≤_, _<_}
-use native.Mathlib.Numerals.{add-one}
-use native.Mathlib.Omega.{arith}
-use borrow.Author.Tests.{not-true, not-false}
-use lib.Dec.{T}
-use lib.ListN.{getD}
+use mathlib.Core.Path.{_≡_, refl}
+use Prim.Native.Nat.{_≤_}
 use denote.Ref.{now}
-use Rattle.sheets.specs.Reader.{readerOrder}
-use Rattle.params.specs.declared.mod_params.Link.{Link}
-use Rattle.registers.specs.declared.board.Board.{Board}
-use Rattle.page.specs.Page.{Image, guess as guessed, first, fits, find, improved}
-use Rattle.lora_page.specs.Lora.{placesOf, page}
 use Rattle.lora_page.specs.Reading.{tellsReading}
-use Rattle.reader.proofs.Order.{order-lt, order-le}
-use Rattle.reader.proofs.SoFar.{so-far, next-guess, begins, refuses, finds}
+use Rattle.reader.proofs.SoFar.{refuses, finds}
 use Rattle.reader.proofs.read_registers.Statement.{statement}
 use Rattle.reader.proofs.read_registers.Tie as tie
 
-abbrev Inv-loop : tie.InvT-loop
-Inv-loop image board variant n guess₀ i₀ guess i = (i ≤ n) × (guess ≡ guessed (first (page board) i) image) × T (fits (first (page board) i) image)
-
-abbrev μ-loop : tie.MeasureT-loop
-μ-loop image board variant n guess₀ i₀ guess i = n - i
-
-image-is : (c : tie.After-shared-slice-known Inv-loop μ-loop) → Image (now (c .before .args .image))
-image-is c = record { size = c .before .pre; byte = λ a. c .shared-slice-known .given a .fits }
-
-loop-holds : tie.Need-loop-holds Inv-loop μ-loop
-loop-holds c = let a = c .before .before .before .args in (omega arith, c .blank .ensures, begins (a .board) (now (a .image)))
-
-reader-order-requires : tie.Need-reader-order-requires Inv-loop μ-loop
-reader-order-requires c κs =
-    let r = c .before .before .before in
-    let b = r .before .before .args .board in
-    omega (arith, r .registers .ensures, order-le (b .variant) (b .«tcxo_used»))
-
-shared-slice-read-learn : tie.Need-shared-slice-read-learn Inv-loop μ-loop
-shared-slice-read-learn c =
-    let o = c .before in
-    let r = o .before .before .before .before in
-    let b = r .before .before .args .board in
-    let bound = order-lt (b .variant) (o .before .before .loop .i) (omega (arith, r .registers .ensures, order-le (b .variant) (b .«tcxo_used»))) in
-    omega (arith, o .reader-order .ensures, bound)
-
--- the guess after one register more
-improved-guess : (c : tie.After-learn Inv-loop μ-loop) → let l = c .before .before .before .before in let a = l .before .before .before .before .args in
-    c .learn .result ≡ guessed (first (page (a .board)) (l .loop .i + 1)) (now (a .image))
-improved-guess c =
-    let o = c .before .before in
-    let l = o .before .before in
-    let r = l .before .before in
-    let a = r .before .before .args in
-    let next = next-guess (a .board) (l .loop .i) (omega (arith, r .registers .ensures)) (now (a .image)) (l .loop .guess) (l .loop .inv .1) in
-    rw (add-one (l .loop .i)) ((rw (o .reader-order .ensures) at (c .learn .ensures)) ∙ next)
-
-returns : tie.Need-returns Inv-loop μ-loop
+returns : tie.Need-returns
 returns c =
-    let g = c .before .before in
-    let l = g .before .before .before .before in
-    let r = l .before .before in
-    let a = r .before .before .args in
-    rw (refuses (a .board) (l .loop .i + 1) (now (a .image)) (g .learn .result) (image-is (r .before)) (omega (arith, r .registers .ensures)) (improved-guess g) (sym (c .before .fits2 .ensures) ∙ not-true _ (c .if1 .taken))) refl
+    let k = c .before .before in
+    let a = k .before .before .args in
+    let seen = k .look .ensures in
+    let f = seen .fit (c .if1 .taken) in
+    rw (finds (a .board) (k .look .result .examined) (now (a .image)) (k .look .result .guess) (seen .count .last f) (seen .guess) f) refl
 
-loop-again : tie.Need-loop-again Inv-loop μ-loop
-loop-again c =
-    let g = c .before .before in
-    let l = g .before .before .before .before in
-    let r = l .before .before in
-    let a = r .before .before .args in (
-      omega arith,
-      improved-guess g,
-      so-far (a .board) (g .learn .result) (l .loop .i + 1) (now (a .image)) (image-is (r .before)) (omega (arith, r .registers .ensures)) (improved-guess g) .0
-          (rw (← c .before .fits2 .ensures, not-false (c .before .fits2 .result) (c .if1 .left)) tt),
-    )
-
-returns-2 : tie.Need-returns-2 Inv-loop μ-loop
+returns-2 : tie.Need-returns-2
 returns-2 c =
-    let l = c .before in
-    let r = l .before .before in
-    let a = r .before .before .args in
-    rw (finds (a .board) (l .loop .i) (now (a .image)) (l .loop .guess) (omega (arith, r .registers .ensures)) (l .loop .inv .1) (l .loop .inv .2)) refl
+    let k = c .before .before in
+    let a = k .before .before .args in
+    let seen = k .look .ensures in
+    rw (refuses (a .board) (k .look .result .examined) (now (a .image)) (seen .count .within) (seen .unfit (c .if1 .left))) refl
 
 pub read-registers-spec : {M : Type 1} → statement M
-read-registers-spec =
-    tie.close
-    (tie.spec
-    Inv-loop
-    μ-loop
-    (λ c κs. search needs)
-    (λ c κs. search needs)
-    loop-holds
-    reader-order-requires
-    (λ c. search needs)
-    shared-slice-read-learn
-    (λ c κs. search needs)
-    (λ c. search needs)
-    (λ c κs. search needs)
-    returns
-    (λ c. search needs)
-    loop-again
-    returns-2)
+read-registers-spec = tie.close (tie.spec (λ c κs. search needs) returns returns-2)

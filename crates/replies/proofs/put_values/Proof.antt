@@ -1,3 +1,5 @@
+-- `replies::put_values` meets its contract: what was written and the text of what is left make up the whole.
+-- Assumes nothing.
 use borrow.Author.Needs.{needs}
 use mathlib.Core.Path.{_≡_}
 use mathlib.Core.List.{List}
@@ -11,10 +13,6 @@ use Rattle.replies.specs.Answers.{plain, valuesText}
 use Rattle.replies.proofs.Values.{value-more}
 use Rattle.replies.proofs.put_values.Statement.{statement}
 use Rattle.replies.proofs.put_values.Tie as tie
-use Rattle.replies.proofs.put_values.Reads as reads
-use Rattle.replies.proofs.put_values.Lts as lts
-use Rattle.printing.proofs.put.Reads as put-reads
-use Rattle.printing.proofs.put_decimal.Reads as put-decimal-reads
 
 abbrev Inv-loop : tie.InvT-loop
 Inv-loop vs out₀ at i₀ o₀ t6 out i o =
@@ -27,27 +25,6 @@ abbrev μ-loop : tie.MeasureT-loop
 loop-holds : tie.Need-loop-holds Inv-loop μ-loop
 loop-holds c = (search needs, search needs, search needs, (λ r out′ p. p))
 
-slice-aggregate-put : tie.Need-slice-aggregate-put Inv-loop μ-loop
-slice-aggregate-put c = search needs
-
-put-requires : tie.Need-put-requires Inv-loop μ-loop
-put-requires c κs = search needs
-
-mul-put-decimal : tie.Need-mul-put-decimal Inv-loop μ-loop
-mul-put-decimal c = search needs
-
-shared-slice-read-put-decimal : tie.Need-shared-slice-read-put-decimal Inv-loop μ-loop
-shared-slice-read-put-decimal c = search needs
-
-put-decimal-requires : tie.Need-put-decimal-requires Inv-loop μ-loop
-put-decimal-requires c κs = search needs
-
-add-i : tie.Need-add-i Inv-loop μ-loop
-add-i c = search needs
-
-loop-less : tie.Need-loop-less Inv-loop μ-loop
-loop-less c = search needs
-
 loop-again : tie.Need-loop-again Inv-loop μ-loop
 loop-again c =
     let d = c .before .before in
@@ -56,9 +33,6 @@ loop-again c =
     let l = k .before .loop in
     let vs = now (k .before .before .before .before .args .vs) in
     (omega arith, omega arith, omega arith, (λ r out′ rest. l .inv .3 r out′ (same (value-more vs (l .i) (k .loop-test .taken)) (then (p .put .ensures) (then (d .put-decimal .ensures .0) rest)))))
-
-same-length : tie.Need-same-length Inv-loop μ-loop
-same-length c = search needs
 
 returns : tie.Need-returns Inv-loop μ-loop
 returns c =
@@ -73,13 +47,13 @@ put-values-spec =
     Inv-loop
     μ-loop
     loop-holds
-    slice-aggregate-put
-    put-requires
-    mul-put-decimal
-    shared-slice-read-put-decimal
-    put-decimal-requires
-    add-i
-    loop-less
+    (λ c. search needs)
+    (λ c κs. search needs)
+    (λ c. search needs)
+    (λ c. search needs)
+    (λ c κs. search needs)
+    (λ c. search needs)
+    (λ c. search needs)
     loop-again
-    same-length
+    (λ c. search needs)
     returns)

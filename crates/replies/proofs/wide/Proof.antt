@@ -1,3 +1,5 @@
+-- `replies::wide` meets its contract: a number of 16 bits is itself in 32.
+-- Assumes nothing.
 use borrow.Author.Needs.{needs}
 use native.Mathlib.Omega.{arith}
 use mathlib.Core.Path.{_≡_}
@@ -7,8 +9,6 @@ use mir.Val.{SFits}
 use mir.ValLaws.{toZ-ofZ}
 use Rattle.replies.proofs.wide.Statement.{statement}
 use Rattle.replies.proofs.wide.Tie as tie
-use Rattle.replies.proofs.wide.Reads as reads
-use Rattle.replies.proofs.wide.Lts as lts
 
 larger : {z : ℤ} → SFits w16 z → SFits w32 z
 larger f = record { sfits = omega (arith, f .sfits) }

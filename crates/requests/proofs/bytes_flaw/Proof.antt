@@ -1,21 +1,9 @@
+-- `requests::bytes_flaw` meets its contract: the parts are the definition's.
+-- Assumes nothing.
 use borrow.Author.Needs.{needs}
 use Rattle.requests.specs.Flaws.{bytesFlaw}
 use Rattle.requests.proofs.bytes_flaw.Statement.{statement}
 use Rattle.requests.proofs.bytes_flaw.Tie as tie
-use Rattle.requests.proofs.bytes_flaw.Reads as reads
-use Rattle.requests.proofs.bytes_flaw.Lts as lts
-use Rattle.reading.proofs.field.Reads as field-reads
-use Rattle.requests.proofs.check.Reads as check-reads
-use Rattle.requests.proofs.is_lent.Reads as is-lent-reads
-
-field-requires : tie.Need-field-requires
-field-requires c κs = search needs
-
-is-lent-requires : tie.Need-is-lent-requires
-is-lent-requires c κs = search needs
-
-check-requires : tie.Need-check-requires
-check-requires c κs = search needs
 
 returns : tie.Need-returns
 unfolding bytesFlaw
@@ -23,4 +11,4 @@ returns c =
     rw (c .check .ensures, c .before .is-lent .ensures, c .before .before .field .ensures)
 
 pub bytes-flaw-spec : {M : Type 1} → statement M
-bytes-flaw-spec = tie.close (tie.spec field-requires is-lent-requires check-requires returns)
+bytes-flaw-spec = tie.close (tie.spec (λ c κs. search needs) (λ c κs. search needs) (λ c κs. search needs) returns)

@@ -1,8 +1,8 @@
+-- `requests::check` meets its contract: the test is the definition's.
+-- Assumes nothing.
 use borrow.Author.Needs.{needs}
 use Rattle.requests.proofs.check.Statement.{statement}
 use Rattle.requests.proofs.check.Tie as tie
-use Rattle.requests.proofs.check.Reads as reads
-use Rattle.requests.proofs.check.Lts as lts
 
 returns : tie.Need-returns
 returns c = rw (c .if1 .taken)

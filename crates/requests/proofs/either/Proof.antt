@@ -1,21 +1,14 @@
+-- `requests::either` meets its contract: the tests are the definition's.
+-- Assumes nothing.
 use borrow.Author.Needs.{needs}
 use Rattle.requests.proofs.either.Statement.{statement}
 use Rattle.requests.proofs.either.Tie as tie
-use Rattle.requests.proofs.either.Reads as reads
-use Rattle.requests.proofs.either.Lts as lts
-use Rattle.reading.proofs.same.Reads as same-reads
-
-same-requires : tie.Need-same-requires
-same-requires c κs = search needs
 
 returns : tie.Need-returns
 returns c = rw (← c .before .same .ensures, c .if1 .taken)
-
-same-requires-2 : tie.Need-same-requires-2
-same-requires-2 c κs = search needs
 
 returns-2 : tie.Need-returns-2
 returns-2 c = rw (← c .before .before .same .ensures, c .before .if1 .left) (c .same2 .ensures)
 
 pub either-spec : {M : Type 1} → statement M
-either-spec = tie.close (tie.spec same-requires returns same-requires-2 returns-2)
+either-spec = tie.close (tie.spec (λ c κs. search needs) returns (λ c κs. search needs) returns-2)

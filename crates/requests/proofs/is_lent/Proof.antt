@@ -1,17 +1,9 @@
+-- `requests::is_lent` meets its contract: the tests are the definition's.
+-- Assumes nothing.
 use borrow.Author.Needs.{needs}
 use borrow.Author.Tests.{lt-leb, le-leb}
 use Rattle.requests.proofs.is_lent.Statement.{statement}
 use Rattle.requests.proofs.is_lent.Tie as tie
-use Rattle.requests.proofs.is_lent.Reads as reads
-use Rattle.requests.proofs.is_lent.Lts as lts
-use Rattle.reading.proofs.is_hex.Reads as is-hex-reads
-use Rattle.reading.proofs.same.Reads as same-reads
-
-slice-aggregate-same : tie.Need-slice-aggregate-same
-slice-aggregate-same c = search needs
-
-same-requires : tie.Need-same-requires
-same-requires c κs = search needs
 
 returns : tie.Need-returns
 returns c = rw (← c .before .same .ensures, c .if1 .taken)
@@ -22,9 +14,6 @@ returns-2 c = rw (← c .before .before .same .ensures, c .before .if1 .left, lt
 returns-3 : tie.Need-returns-3
 returns-3 c = rw (← c .before .before .before .same .ensures, c .before .before .if1 .left, le-leb _ _ (c .before .if2 .left), lt-leb _ _ (c .if3 .taken))
 
-is-hex-requires : tie.Need-is-hex-requires
-is-hex-requires c κs = search needs
-
 returns-4 : tie.Need-returns-4
 returns-4 c =
     rw (← c .before .before .before .before .same .ensures, c .before .before .before .if1 .left, le-leb _ _ (c .before .before .if2 .left), le-leb _ _ (c .before .if3 .left)) (c .is-hex .ensures)
@@ -33,10 +22,10 @@ pub is-lent-spec : {M : Type 1} → statement M
 is-lent-spec =
     tie.close
     (tie.spec
-    slice-aggregate-same
-    same-requires
+    (λ c. search needs)
+    (λ c κs. search needs)
     returns
     returns-2
     returns-3
-    is-hex-requires
+    (λ c κs. search needs)
     returns-4)

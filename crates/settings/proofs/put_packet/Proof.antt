@@ -1,41 +1,14 @@
+-- `settings::put_packet` meets its contract: each arm is the definition's case.
+-- Assumes nothing.
 use borrow.Author.Needs.{needs}
 use native.Mathlib.Omega.{arith}
 use Rattle.printing.proofs.Appending.{same, then}
 use Rattle.replies.proofs.Values.{well}
 use Rattle.settings.proofs.put_packet.Statement.{statement}
 use Rattle.settings.proofs.put_packet.Tie as tie
-use Rattle.settings.proofs.put_packet.Reads as reads
-use Rattle.settings.proofs.put_packet.Lts as lts
-use Rattle.printing.proofs.put.Reads as put-reads
-use Rattle.replies.proofs.put_refusal.Reads as put-refusal-reads
-use Rattle.settings.proofs.put_framing.Reads as put-framing-reads
-
-enum-known-a : tie.Need-enum-known-a
-enum-known-a c = search needs
-
-slice-aggregate-put : tie.Need-slice-aggregate-put
-slice-aggregate-put c = search needs
-
-put-requires : tie.Need-put-requires
-put-requires c κs = search needs
-
-put-framing-requires : tie.Need-put-framing-requires
-put-framing-requires c κs = search needs
-
-enum-known-a-2 : tie.Need-enum-known-a-2
-enum-known-a-2 c = search needs
-
-put-refusal-requires : tie.Need-put-refusal-requires
-put-refusal-requires c κs = search needs
-
-same-length : tie.Need-same-length
-same-length c = search needs
 
 returns : tie.Need-returns
 returns c = (rw (c .before .before .before .before .before .before .before .before .before .before .a .given .1) (same (well _) (then (c .before .before .before .before .before .before .put .ensures) (c .before .before .put-framing .ensures .0))), omega arith)
-
-same-length-2 : tie.Need-same-length-2
-same-length-2 c = search needs
 
 returns-2 : tie.Need-returns-2
 returns-2 c = (rw (c .before .before .before .before .before .a2 .given .1) (c .before .before .put-refusal .ensures .0), omega arith)
@@ -44,13 +17,13 @@ pub put-packet-spec : {M : Type 1} → statement M
 put-packet-spec =
     tie.close
     (tie.spec
-    enum-known-a
-    slice-aggregate-put
-    put-requires
-    put-framing-requires
-    enum-known-a-2
-    put-refusal-requires
-    same-length
+    (λ c. search needs)
+    (λ c. search needs)
+    (λ c κs. search needs)
+    (λ c κs. search needs)
+    (λ c. search needs)
+    (λ c κs. search needs)
+    (λ c. search needs)
     returns
-    same-length-2
+    (λ c. search needs)
     returns-2)

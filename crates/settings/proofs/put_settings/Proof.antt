@@ -1,3 +1,5 @@
+-- `settings::put_settings` meets its contract: the values without a sign, and then the power.
+-- Assumes nothing.
 use borrow.Author.Needs.{needs}
 use native.Mathlib.Omega.{arith}
 use mathlib.Core.Path.{_≡_, ap}
@@ -13,19 +15,6 @@ use Rattle.replies.proofs.Values.{joined}
 use Rattle.settings.specs.Link.{unsignedValues}
 use Rattle.settings.proofs.put_settings.Statement.{statement}
 use Rattle.settings.proofs.put_settings.Tie as tie
-use Rattle.settings.proofs.put_settings.Reads as reads
-use Rattle.settings.proofs.put_settings.Lts as lts
-use Rattle.replies.proofs.put_value.Reads as put-value-reads
-use Rattle.settings.proofs.put_unsigned.Reads as put-unsigned-reads
-
-put-unsigned-requires : tie.Need-put-unsigned-requires
-put-unsigned-requires c κs = search needs
-
-put-value-requires : tie.Need-put-value-requires
-put-value-requires c κs = search needs
-
-same-length : tie.Need-same-length
-same-length c = search needs
 
 returns : tie.Need-returns
 returns c =
@@ -38,4 +27,4 @@ returns c =
 
 pub put-settings-spec : {M : Type 1} → statement M
 put-settings-spec =
-    tie.close (tie.spec put-unsigned-requires put-value-requires same-length returns)
+    tie.close (tie.spec (λ c κs. search needs) (λ c κs. search needs) (λ c. search needs) returns)

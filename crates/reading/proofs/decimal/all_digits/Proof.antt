@@ -1,3 +1,5 @@
+-- `reading::decimal::all_digits` meets its contract: the test of what is left is the test of the whole.
+-- Assumes nothing.
 use borrow.Author.Needs.{needs}
 use mathlib.Core.Path.{_≡_, refl, sym, _∙_}
 use Prim.Native.Nat.{_-_, _≤_}
@@ -9,9 +11,6 @@ use Rattle.reading.specs.Decimal.{isDigit, all, digits}
 use Rattle.reading.proofs.Tests.{passes, fails}
 use Rattle.reading.proofs.decimal.all_digits.Statement.{statement}
 use Rattle.reading.proofs.decimal.all_digits.Tie as tie
-use Rattle.reading.proofs.decimal.all_digits.Reads as reads
-use Rattle.reading.proofs.decimal.all_digits.Lts as lts
-use Rattle.reading.proofs.decimal.is_digit.Reads as is-digit-reads
 
 abbrev Inv-loop : tie.InvT-loop
 Inv-loop s i₀ i = (i ≤ length s) × (all isDigit (drop i s) ≡ all isDigit s)
@@ -22,21 +21,6 @@ abbrev μ-loop : tie.MeasureT-loop
 returns : tie.Need-returns Inv-loop μ-loop
 unfolding digits
 returns c = rw (le-ltb 0 (length (now (c .before .before .args .s))) (omega arith))
-
-loop-holds : tie.Need-loop-holds Inv-loop μ-loop
-loop-holds c = search needs
-
-shared-slice-read-is-digit : tie.Need-shared-slice-read-is-digit Inv-loop μ-loop
-shared-slice-read-is-digit c = search needs
-
-is-digit-requires : tie.Need-is-digit-requires Inv-loop μ-loop
-is-digit-requires c κs = search needs
-
-add-i : tie.Need-add-i Inv-loop μ-loop
-add-i c = search needs
-
-loop-less : tie.Need-loop-less Inv-loop μ-loop
-loop-less c = search needs
 
 loop-again : tie.Need-loop-again Inv-loop μ-loop
 loop-again c =
@@ -67,11 +51,11 @@ all-digits-spec =
     Inv-loop
     μ-loop
     returns
-    loop-holds
-    shared-slice-read-is-digit
-    is-digit-requires
-    add-i
-    loop-less
+    (λ c. search needs)
+    (λ c. search needs)
+    (λ c κs. search needs)
+    (λ c. search needs)
+    (λ c. search needs)
     loop-again
     returns-2
     returns-3)

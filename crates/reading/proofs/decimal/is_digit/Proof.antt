@@ -1,9 +1,9 @@
+-- `reading::decimal::is_digit` meets its contract: the two tests are the definition's.
+-- Assumes nothing.
 use borrow.Author.Needs.{needs}
 use borrow.Author.Tests.{lt-leb, le-leb}
 use Rattle.reading.proofs.decimal.is_digit.Statement.{statement}
 use Rattle.reading.proofs.decimal.is_digit.Tie as tie
-use Rattle.reading.proofs.decimal.is_digit.Reads as reads
-use Rattle.reading.proofs.decimal.is_digit.Lts as lts
 
 returns : tie.Need-returns
 returns c = rw (lt-leb _ _ (c .if1 .taken))

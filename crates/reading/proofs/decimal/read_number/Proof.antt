@@ -1,18 +1,10 @@
+-- `reading::decimal::read_number` meets its contract: the tests are the definition's.
+-- Assumes nothing.
 use borrow.Author.Needs.{needs}
 use mathlib.Core.Path.{_≡_, sym}
 use Rattle.reading.specs.Decimal.{numberOf}
 use Rattle.reading.proofs.decimal.read_number.Statement.{statement}
 use Rattle.reading.proofs.decimal.read_number.Tie as tie
-use Rattle.reading.proofs.decimal.read_number.Reads as reads
-use Rattle.reading.proofs.decimal.read_number.Lts as lts
-use Rattle.reading.proofs.decimal.all_digits.Reads as all-digits-reads
-use Rattle.reading.proofs.decimal.value.Reads as value-reads
-
-all-digits-requires : tie.Need-all-digits-requires
-all-digits-requires c κs = search needs
-
-value-requires : tie.Need-value-requires
-value-requires c κs = search needs
 
 returns : tie.Need-returns
 unfolding numberOf
@@ -23,4 +15,4 @@ unfolding numberOf
 returns-2 c = rw (sym (c .before .all-digits .ensures), c .if1 .left)
 
 pub read-number-spec : {M : Type 1} → statement M
-read-number-spec = tie.close (tie.spec all-digits-requires value-requires returns returns-2)
+read-number-spec = tie.close (tie.spec (λ c κs. search needs) (λ c κs. search needs) returns returns-2)

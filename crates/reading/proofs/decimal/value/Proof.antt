@@ -1,3 +1,5 @@
+-- `reading::decimal::value` meets its contract: what is left, after the value read so far, gives the value of the whole.
+-- Assumes nothing.
 use borrow.Author.Needs.{needs}
 use mathlib.Core.Path.{_≡_, refl, sym, _∙_}
 use Prim.Native.Nat.{_-_, _≤_}
@@ -9,24 +11,12 @@ use Rattle.reading.specs.Decimal.{valueFrom, valued}
 use Rattle.reading.proofs.Valued.{one-more, too-much}
 use Rattle.reading.proofs.decimal.value.Statement.{statement}
 use Rattle.reading.proofs.decimal.value.Tie as tie
-use Rattle.reading.proofs.decimal.value.Reads as reads
-use Rattle.reading.proofs.decimal.value.Lts as lts
-use Rattle.reading.proofs.decimal.worth.Reads as worth-reads
 
 abbrev Inv-loop : tie.InvT-loop
 Inv-loop s most n₀ i₀ n i = (i ≤ length s) × (n ≤ most) × (valueFrom (drop i s) n ≡ valueFrom s 0)
 
 abbrev μ-loop : tie.MeasureT-loop
 μ-loop s most n₀ i₀ n i = length s - i
-
-loop-holds : tie.Need-loop-holds Inv-loop μ-loop
-loop-holds c = search needs
-
-shared-slice-read-worth : tie.Need-shared-slice-read-worth Inv-loop μ-loop
-shared-slice-read-worth c = search needs
-
-worth-requires : tie.Need-worth-requires Inv-loop μ-loop
-worth-requires c κs = search needs
 
 returns : tie.Need-returns Inv-loop μ-loop
 returns c =
@@ -35,30 +25,12 @@ returns c =
     let l = k .before .loop in
     too-much (a .most) (now (a .s)) (l .i) (l .n) (k .loop-test .taken) (l .inv .2) (omega arith)
 
-mul-if2 : tie.Need-mul-if2 Inv-loop μ-loop
-mul-if2 c = search needs
-
-sub-if2 : tie.Need-sub-if2 Inv-loop μ-loop
-sub-if2 c = search needs
-
 returns-2 : tie.Need-returns-2 Inv-loop μ-loop
 returns-2 c =
     let k = c .before .before .before .before in
     let a = k .before .before .before .args in
     let l = k .before .loop in
     too-much (a .most) (now (a .s)) (l .i) (l .n) (k .loop-test .taken) (l .inv .2) (omega arith)
-
-mul-n : tie.Need-mul-n Inv-loop μ-loop
-mul-n c = search needs
-
-add-n : tie.Need-add-n Inv-loop μ-loop
-add-n c = search needs
-
-add-i : tie.Need-add-i Inv-loop μ-loop
-add-i c = search needs
-
-loop-less : tie.Need-loop-less Inv-loop μ-loop
-loop-less c = search needs
 
 loop-again : tie.Need-loop-again Inv-loop μ-loop
 loop-again c =
@@ -81,16 +53,16 @@ value-spec =
     (tie.spec
     Inv-loop
     μ-loop
-    loop-holds
-    shared-slice-read-worth
-    worth-requires
+    (λ c. search needs)
+    (λ c. search needs)
+    (λ c κs. search needs)
     returns
-    mul-if2
-    sub-if2
+    (λ c. search needs)
+    (λ c. search needs)
     returns-2
-    mul-n
-    add-n
-    add-i
-    loop-less
+    (λ c. search needs)
+    (λ c. search needs)
+    (λ c. search needs)
+    (λ c. search needs)
     loop-again
     returns-3)

@@ -1,3 +1,5 @@
+-- `reading::fields::count` meets its contract: what was counted and what is left to count make up the whole.
+-- Assumes nothing.
 use borrow.Author.Needs.{needs}
 use mathlib.Core.Path.{_≡_, ap}
 use mathlib.Core.Logic.{⊎-elim}
@@ -9,29 +11,12 @@ use Rattle.reading.specs.Fields.{countOf}
 use Rattle.reading.proofs.Parted.{counted, passed}
 use Rattle.reading.proofs.fields.count.Statement.{statement}
 use Rattle.reading.proofs.fields.count.Tie as tie
-use Rattle.reading.proofs.fields.count.Reads as reads
-use Rattle.reading.proofs.fields.count.Lts as lts
 
 abbrev Inv-loop : tie.InvT-loop
 Inv-loop s b n₀ i₀ n i = (i ≤ length s) × (n ≤ i) × (n + countOf b (drop i s) ≡ countOf b s)
 
 abbrev μ-loop : tie.MeasureT-loop
 μ-loop s b n₀ i₀ n i = length s - i
-
-loop-holds : tie.Need-loop-holds Inv-loop μ-loop
-loop-holds c = search needs
-
-shared-slice-read-if1 : tie.Need-shared-slice-read-if1 Inv-loop μ-loop
-shared-slice-read-if1 c = search needs
-
-add-n : tie.Need-add-n Inv-loop μ-loop
-add-n c = search needs
-
-add-i : tie.Need-add-i Inv-loop μ-loop
-add-i c = search needs
-
-loop-less : tie.Need-loop-less Inv-loop μ-loop
-loop-less c = search needs
 
 loop-again : tie.Need-loop-again Inv-loop μ-loop
 loop-again c =
@@ -49,10 +34,10 @@ count-spec =
     (tie.spec
     Inv-loop
     μ-loop
-    loop-holds
-    shared-slice-read-if1
-    add-n
-    add-i
-    loop-less
+    (λ c. search needs)
+    (λ c. search needs)
+    (λ c. search needs)
+    (λ c. search needs)
+    (λ c. search needs)
     loop-again
     returns)

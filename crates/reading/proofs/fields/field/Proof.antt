@@ -1,28 +1,11 @@
+-- `reading::fields::field` meets its contract: a field ends where the next separator stands.
+-- Assumes nothing.
 use borrow.Author.Needs.{needs}
 use mathlib.Core.Path.{_≡_, _∙_}
 use denote.Ref.{now}
 use Rattle.reading.proofs.Parted.{to-end}
 use Rattle.reading.proofs.fields.field.Statement.{statement}
 use Rattle.reading.proofs.fields.field.Tie as tie
-use Rattle.reading.proofs.fields.field.Reads as reads
-use Rattle.reading.proofs.fields.field.Lts as lts
-use Rattle.bytes.proofs.scan.find.Reads as find-reads
-use Rattle.reading.proofs.fields.start.Reads as start-reads
-
-start-requires : tie.Need-start-requires
-start-requires c κs = search needs
-
-find-requires : tie.Need-find-requires
-find-requires c κs = search needs
-
-sub-result : tie.Need-sub-result
-sub-result c = search needs
-
-part-result-start : tie.Need-part-result-start
-part-result-start c = search needs
-
-part-result-end : tie.Need-part-result-end
-part-result-end c = search needs
 
 returns : tie.Need-returns
 returns c =
@@ -33,4 +16,4 @@ returns c =
 pub field-spec : {M : Type 1} → statement M
 field-spec =
     tie.close
-    (tie.spec start-requires find-requires sub-result part-result-start part-result-end returns)
+    (tie.spec (λ c κs. search needs) (λ c κs. search needs) (λ c. search needs) (λ c. search needs) (λ c. search needs) returns)

@@ -1,3 +1,5 @@
+-- `reading::fields::start` meets its contract: the fields that are left give the field that was asked.
+-- Assumes nothing.
 use borrow.Author.Needs.{needs}
 use mathlib.Core.Path.{_≡_, refl, _∙_}
 use Prim.Native.Nat.{_+_, _-_, _≤_}
@@ -8,31 +10,12 @@ use Rattle.reading.specs.Fields.{fieldAt}
 use Rattle.reading.proofs.Parted.{next}
 use Rattle.reading.proofs.fields.start.Statement.{statement}
 use Rattle.reading.proofs.fields.start.Tie as tie
-use Rattle.reading.proofs.fields.start.Reads as reads
-use Rattle.reading.proofs.fields.start.Lts as lts
-use Rattle.bytes.proofs.scan.find.Reads as find-reads
-use Rattle.reading.proofs.fields.past.Reads as past-reads
 
 abbrev Inv-loop : tie.InvT-loop
 Inv-loop s sep k at₀ left₀ at left = (at ≤ length s) × (fieldAt sep left (drop at s) ≡ fieldAt sep k s)
 
 abbrev μ-loop : tie.MeasureT-loop
 μ-loop s sep k at₀ left₀ at left = left
-
-loop-holds : tie.Need-loop-holds Inv-loop μ-loop
-loop-holds c = search needs
-
-find-requires : tie.Need-find-requires Inv-loop μ-loop
-find-requires c κs = search needs
-
-past-requires : tie.Need-past-requires Inv-loop μ-loop
-past-requires c κs = search needs
-
-sub-left : tie.Need-sub-left Inv-loop μ-loop
-sub-left c = search needs
-
-loop-less : tie.Need-loop-less Inv-loop μ-loop
-loop-less c = search needs
 
 loop-again : tie.Need-loop-again Inv-loop μ-loop
 loop-again c =
@@ -55,10 +38,10 @@ start-spec =
     (tie.spec
     Inv-loop
     μ-loop
-    loop-holds
-    find-requires
-    past-requires
-    sub-left
-    loop-less
+    (λ c. search needs)
+    (λ c κs. search needs)
+    (λ c κs. search needs)
+    (λ c. search needs)
+    (λ c. search needs)
     loop-again
     returns)

@@ -1,3 +1,5 @@
+-- `reading::hex::hex_digits` meets its contract: the test of what is left is the test of the whole.
+-- Assumes nothing.
 use borrow.Author.Needs.{needs}
 use mathlib.Core.Path.{_≡_, refl, sym, _∙_}
 use Prim.Native.Nat.{_-_, _%_, _≤_}
@@ -10,9 +12,6 @@ use Rattle.reading.specs.Hex.{isNibble, hexDigits}
 use Rattle.reading.proofs.Tests.{passes, fails}
 use Rattle.reading.proofs.hex.hex_digits.Statement.{statement}
 use Rattle.reading.proofs.hex.hex_digits.Tie as tie
-use Rattle.reading.proofs.hex.hex_digits.Reads as reads
-use Rattle.reading.proofs.hex.hex_digits.Lts as lts
-use Rattle.reading.proofs.hex.is_nibble.Reads as is-nibble-reads
 
 abbrev Inv-loop : tie.InvT-loop
 Inv-loop s a i₀ i = (i ≤ length s) × (all (isNibble a) (drop i s) ≡ all (isNibble a) s)
@@ -23,21 +22,6 @@ abbrev μ-loop : tie.MeasureT-loop
 returns : tie.Need-returns Inv-loop μ-loop
 unfolding hexDigits
 returns c = rw (ne-eqb (length (now (c .before .before .args .s)) % 2) 0 (c .if1 .taken))
-
-loop-holds : tie.Need-loop-holds Inv-loop μ-loop
-loop-holds c = search needs
-
-shared-slice-read-is-nibble : tie.Need-shared-slice-read-is-nibble Inv-loop μ-loop
-shared-slice-read-is-nibble c = search needs
-
-is-nibble-requires : tie.Need-is-nibble-requires Inv-loop μ-loop
-is-nibble-requires c κs = search needs
-
-add-i : tie.Need-add-i Inv-loop μ-loop
-add-i c = search needs
-
-loop-less : tie.Need-loop-less Inv-loop μ-loop
-loop-less c = search needs
 
 loop-again : tie.Need-loop-again Inv-loop μ-loop
 loop-again c =
@@ -68,11 +52,11 @@ hex-digits-spec =
     Inv-loop
     μ-loop
     returns
-    loop-holds
-    shared-slice-read-is-nibble
-    is-nibble-requires
-    add-i
-    loop-less
+    (λ c. search needs)
+    (λ c. search needs)
+    (λ c κs. search needs)
+    (λ c. search needs)
+    (λ c. search needs)
     loop-again
     returns-2
     returns-3)

@@ -1,9 +1,9 @@
+-- `reading::hex::is_letter` meets its contract: the two tests are the definition's.
+-- Assumes nothing.
 use borrow.Author.Needs.{needs}
 use borrow.Author.Tests.{lt-leb, le-leb}
 use Rattle.reading.proofs.hex.is_letter.Statement.{statement}
 use Rattle.reading.proofs.hex.is_letter.Tie as tie
-use Rattle.reading.proofs.hex.is_letter.Reads as reads
-use Rattle.reading.proofs.hex.is_letter.Lts as lts
 
 returns : tie.Need-returns
 returns c = rw (lt-leb _ _ (c .if1 .taken))

@@ -1,3 +1,5 @@
+-- `reading::hex::nibble` meets its contract: each answer is the definition's case, and at most 15.
+-- Assumes nothing.
 use borrow.Author.Needs.{needs}
 use mathlib.Core.Path.{_≡_, sym, _∙_}
 use native.Mathlib.Omega.{arith}
@@ -5,10 +7,6 @@ use Prim.Native.Nat.{_-_, _≤_}
 use Rattle.reading.proofs.Pairs.{bounds}
 use Rattle.reading.proofs.hex.nibble.Statement.{statement}
 use Rattle.reading.proofs.hex.nibble.Tie as tie
-use Rattle.reading.proofs.hex.nibble.Reads as reads
-use Rattle.reading.proofs.hex.nibble.Lts as lts
-use Rattle.reading.proofs.decimal.is_digit.Reads as is-digit-reads
-use Rattle.reading.proofs.hex.is_letter.Reads as is-letter-reads
 
 digit : (c : tie.Then1) → (48 ≤ c .before .before .args .b) × (c .before .before .args .b ≤ 57)
 digit c = bounds 48 _ _ 57 (sym (c .before .is-digit .ensures) ∙ c .if1 .taken)
@@ -16,17 +14,11 @@ digit c = bounds 48 _ _ 57 (sym (c .before .is-digit .ensures) ∙ c .if1 .taken
 letter : (c : tie.Then2) → let a = c .before .before .before .before .args in (a .a ≤ a .b) × (a .b - a .a ≤ 5)
 letter c = bounds _ _ _ 5 (sym (c .before .is-letter .ensures) ∙ c .if2 .taken)
 
-is-digit-requires : tie.Need-is-digit-requires
-is-digit-requires c κs = search needs
-
 sub-result : tie.Need-sub-result
 sub-result c = digit c .0
 
 returns : tie.Need-returns
 returns c = (rw (sym (c .before .is-digit .ensures), c .if1 .taken), omega (arith, digit c))
-
-is-letter-requires : tie.Need-is-letter-requires
-is-letter-requires c κs = search needs
 
 sub-result-2 : tie.Need-sub-result-2
 sub-result-2 c = letter c .0
@@ -48,10 +40,10 @@ pub nibble-spec : {M : Type 1} → statement M
 nibble-spec =
     tie.close
     (tie.spec
-    is-digit-requires
+    (λ c κs. search needs)
     sub-result
     returns
-    is-letter-requires
+    (λ c κs. search needs)
     sub-result-2
     add-result
     returns-2

@@ -1,3 +1,5 @@
+-- `reading::hex::read_hex` meets its contract: the tests are the definition's, and `decode` stores what the text says.
+-- Assumes nothing.
 use borrow.Author.Needs.{needs}
 use mathlib.Core.Path.{_≡_, refl, sym, _∙_}
 use mathlib.Core.Bool.{Bool}
@@ -9,20 +11,9 @@ use lib.ListN.{length}
 use Rattle.reading.specs.Hex.{ten, hexDigits, bytesRead, bytesLeft}
 use Rattle.reading.proofs.hex.read_hex.Statement.{statement}
 use Rattle.reading.proofs.hex.read_hex.Tie as tie
-use Rattle.reading.proofs.hex.read_hex.Reads as reads
-use Rattle.reading.proofs.hex.read_hex.Lts as lts
-use Rattle.reading.proofs.hex.decode.Reads as decode-reads
-use Rattle.reading.proofs.hex.hex_digits.Reads as hex-digits-reads
-use Rattle.reading.proofs.hex.ten.Reads as ten-reads
 
 tested : (c : tie.After-hex-digits) (t : Bool) → c .hex-digits .result ≡ t → let a = c .before .before .before .before .args in hexDigits (ten (a .case)) (now (a .s)) ≡ t
 tested c t e = rw (sym (c .before .ten .ensures)) (sym (c .hex-digits .ensures) ∙ e)
-
-ten-requires : tie.Need-ten-requires
-ten-requires c κs = search needs
-
-hex-digits-requires : tie.Need-hex-digits-requires
-hex-digits-requires c κs = search needs
 
 returns : tie.Need-returns
 unfolding bytesRead bytesLeft
@@ -32,12 +23,6 @@ returns c =
     let y = tested k _ (c .before .if1 .taken) in
     let r = lt-leb (length (now (a .s)) / 2) (length (now (a .out))) (omega arith) in
     (rw (y, r), rw (y, r))
-
-decode-requires : tie.Need-decode-requires
-decode-requires c κs = search needs
-
-same-length : tie.Need-same-length
-same-length c = search needs
 
 returns-2 : tie.Need-returns-2
 unfolding bytesRead bytesLeft
@@ -58,10 +43,10 @@ pub read-hex-spec : {M : Type 1} → statement M
 read-hex-spec =
     tie.close
     (tie.spec
-    ten-requires
-    hex-digits-requires
+    (λ c κs. search needs)
+    (λ c κs. search needs)
     returns
-    decode-requires
-    same-length
+    (λ c κs. search needs)
+    (λ c. search needs)
     returns-2
     returns-3)

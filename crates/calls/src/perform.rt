@@ -1,1 +1,0 @@
-// A call that a line asks, and its outcome's line.

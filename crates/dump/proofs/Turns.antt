@@ -1,0 +1,43 @@
+-- Hex text taken apart at its next character, and lines and columns counted by one more.
+-- Assumes nothing.
+use mathlib.Core.Path.{_≡_, refl}
+use mathlib.Core.Bool.{true, cond}
+use mathlib.Core.List.{List, [], _∷_, _++_, append-nil}
+use Prim.Native.Nat.{ℕ, suc, _+_, _≤_, _<_}
+use native.Mathlib.Numerals.{add-one}
+use borrow.Author.Tests.{eqb-true}
+use lib.Dec.{eqb}
+use lib.ListN.{length, take, drop, getD, drop-of-length-le}
+use lib.Seq.{drop-cons, take-length}
+use Rattle.dump.specs.declared.text.State.{State}
+use Rattle.dump.specs.Text.{stepAt, next, given, bytesFrom, unless, verdictFrom}
+use Rattle.reading.proofs.Tests.{and-true}
+use Rattle.dump.specs.Dump.{isRaw}
+use Rattle.dump.specs.Spot.{lineFrom, columnFrom}
+
+module _ (s : List ℕ) (i : ℕ) (h : i < length s) where
+  pub bytes-more : (t : State)
+      → bytesFrom t (drop i s) ≡ given (stepAt t (getD s i 0)) ++ bytesFrom (next (stepAt t (getD s i 0))) (drop (i + 1) s)
+  bytes-more t = rw (add-one i, drop-cons s i 0)
+
+  pub verdict-more : (t : State) (n : ℕ)
+      → verdictFrom t i n (drop i s) ≡ unless (stepAt t (getD s i 0)) i (verdictFrom (next (stepAt t (getD s i 0))) (i + 1) (n + length (given (stepAt t (getD s i 0)))) (drop (i + 1) s))
+  verdict-more t n = rw (drop-cons s i 0) (rw (add-one i) refl)
+
+  pub line-more : (l : ℕ) → lineFrom l (drop i s) ≡ lineFrom (cond (eqb (getD s i 0) 10) (l + 1) l) (drop (i + 1) s)
+  line-more l = rw (add-one i, drop-cons s i 0)
+
+  pub column-more : (k : ℕ) → columnFrom k (drop i s) ≡ columnFrom (cond (eqb (getD s i 0) 10) 1 (k + 1)) (drop (i + 1) s)
+  column-more k = rw (add-one i, drop-cons s i 0)
+
+-- a copy of as many bytes as there are
+pub copied : (bytes old : List ℕ) → length old ≤ length bytes → take (length bytes) bytes ++ drop (length bytes) old ≡ bytes
+copied bytes old h = rw (take-length bytes, drop-of-length-le old {i = length bytes} h) (append-nil bytes)
+
+-- a place that is filled
+pub filled : (bytes : List ℕ) (n : ℕ) → n ≡ length bytes → take n bytes ++ [] ≡ bytes
+filled bytes n e = rw (e, append-nil) (take-length bytes)
+
+pub raw-size : (s : List ℕ) → isRaw s ≡ true → length s ≡ 128
+unfolding isRaw
+raw-size s e = eqb-true (length s) 128 (and-true (eqb (length s) 128) _ e .0)

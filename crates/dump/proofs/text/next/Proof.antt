@@ -1,0 +1,18 @@
+use borrow.Author.Needs.{needs}
+use Rattle.dump.proofs.Arms as arms
+use Rattle.dump.proofs.text.next.Statement.{statement}
+use Rattle.dump.proofs.text.next.Tie as tie
+use Rattle.dump.proofs.text.next.Reads as reads
+use Rattle.dump.proofs.text.next.Lts as lts
+
+enum-known-step : tie.Need-enum-known-step
+enum-known-step c = search needs
+
+returns : tie.Need-returns
+returns c = rw (c .before .step .given .1)
+
+returns-2 : tie.Need-returns-2
+returns-2 c = arms.anew (c .before .args .step) (c .match .keys2)
+
+pub next-spec : {M : Type 1} → statement M
+next-spec = tie.close (tie.spec enum-known-step returns returns-2)

@@ -1,0 +1,18 @@
+use borrow.Author.Needs.{needs}
+use Rattle.dump.proofs.Arms as arms
+use Rattle.dump.proofs.text.on_x.Statement.{statement}
+use Rattle.dump.proofs.text.on_x.Tie as tie
+use Rattle.dump.proofs.text.on_x.Reads as reads
+use Rattle.dump.proofs.text.on_x.Lts as lts
+
+enum-told : tie.Need-enum-told
+enum-told c = search needs
+
+returns : tie.Need-returns
+returns c = rw (c .enum-told .given .1)
+
+returns-2 : tie.Need-returns-2
+returns-2 c = arms.stray (c .before .args .state) (c .match .keys2)
+
+pub on-x-spec : {M : Type 1} → statement M
+on-x-spec = tie.close (tie.spec enum-told returns returns-2)

@@ -1,0 +1,45 @@
+-- What an input holds: 128 raw bytes, or hex text. It is raw if it has 128 bytes and not each of them could stand in hex text.
+use mathlib.Core.Bool.{Bool, true, false, cond, _&&_, not}
+use mathlib.Core.List.{List}
+use Prim.Native.Nat.{ℕ}
+use lib.Dec.{eqb}
+use lib.ListN.{length}
+use Rattle.reading.specs.Decimal.{all}
+use Rattle.dump.specs.declared.characters.Kind.{Kind}
+use Rattle.dump.specs.declared.characters.Kind.the-variants.{Digit, Blank, X, Other}
+use Rattle.dump.specs.declared.text.State.the-variants.{Between}
+use Rattle.dump.specs.declared.text.Read.{Read}
+use Rattle.dump.specs.declared.text.Read.the-variants.{Image, Bytes, Missing, Bad}
+use Rattle.dump.specs.Characters.{kindOf}
+use Rattle.dump.specs.Text.{bytesFrom, verdictFrom}
+
+abbrev pub known : Kind → Bool
+known (Digit d) = true
+known Blank = true
+known X = true
+known Other = false
+
+abbrev pub couldBeHex : ℕ → Bool
+couldBeHex c = known (kindOf c)
+
+unfoldable pub isRaw : List ℕ → Bool
+isRaw s = eqb (length s) 128 && not (all couldBeHex s)
+
+-- what is read leaves the lent image as it was, unless it is an image
+abbrev pub leave : Read → List ℕ → List ℕ → List ℕ
+leave Image bytes im = bytes
+leave (Bytes n) bytes im = im
+leave (Missing at) bytes im = im
+leave (Bad at) bytes im = im
+
+abbrev pub textRead : List ℕ → Read
+textRead s = verdictFrom Between 0 0 s
+
+abbrev pub textLeft : List ℕ → List ℕ → List ℕ
+textLeft s im = leave (textRead s) (bytesFrom Between s) im
+
+abbrev pub readOf : List ℕ → Read
+readOf s = cond (isRaw s) Image (textRead s)
+
+abbrev pub leftOf : List ℕ → List ℕ → List ℕ
+leftOf s im = cond (isRaw s) s (textLeft s im)

@@ -1,0 +1,4 @@
+pub mod Characters
+pub mod Text
+pub mod Dump
+pub mod Spot

@@ -1,0 +1,43 @@
+// Dumps of a pack's registers: raw bytes or hex text, found out by looking. What an input holds is said by the definitions in specs/.
+mod characters;
+mod spot;
+mod text;
+
+ghost use mathlib.Core.Path.{_≡_};
+ghost use Prim.Native.Nat.{_≤_};
+ghost use lib.ListN.{length};
+ghost use Rattle.dump.specs.Dump.{isRaw, readOf, leftOf};
+use characters::could_be_hex;
+pub use spot::Spot;
+pub use spot::spot_behind;
+pub use text::Read;
+use text::read_text;
+
+// Raw bytes, and not hex text that happens to be of 128 characters.
+fn is_raw(input: &[u8]) -> bool
+    ensures { λ r. ⌜ r ≡ isRaw (now (input .entry)) ⌝ }
+{
+    if input.len() != 128 {
+        return false;
+    }
+    let mut i = 0;
+    while i < input.len() {
+        if !could_be_hex(input[i]) {
+            return true;
+        }
+        i += 1;
+    }
+    false
+}
+
+// Puts the image that the input holds into a lent place, which stays as it was where it holds none.
+pub fn read(input: &[u8], image: &mut [u8]) -> Read
+    requires { ⌜ length (now image) ≡ 128 ⌝ }
+    ensures { λ r. ⌜ (r ≡ readOf (now (input .entry))) × (now (image .exit) ≡ leftOf (now (input .entry)) (now (image .entry))) ⌝ }
+{
+    if is_raw(input) {
+        bytes::copy(input, image);
+        return Read::Image;
+    }
+    read_text(input, image)
+}

@@ -1,0 +1,123 @@
+-- `reader::look` meets its contract: the guess is that of the registers so far, and these fit.
+-- Assumes nothing.
+use borrow.Author.Needs.{needs}
+use mathlib.Core.Path.{_≡_, refl, sym, subst, _∙_}
+use mathlib.Core.Bool.{true, false}
+use mathlib.Core.List.{List}
+use Prim.Native.Nat.{ℕ, suc, _+_, _-_, _≤_, _<_}
+use native.Mathlib.Numerals.{add-one}
+use native.Mathlib.Omega.{arith}
+use borrow.Author.Count.{below-more}
+use borrow.Author.Tests.{not-true, not-false}
+use lib.Dec.{T}
+use lib.ListN.{getD}
+use denote.Ref.{now}
+use Rattle.sheets.specs.Reader.{readerOrder}
+use Rattle.params.specs.declared.mod_params.Link.{Link}
+use Rattle.registers.specs.declared.board.Board.{Board}
+use Rattle.page.specs.Page.{Image, guess as guessed, first, fits, find, improved}
+use Rattle.lora_page.specs.Lora.{placesOf, page}
+use Rattle.reader.specs.Look.{Fit}
+use Rattle.reader.proofs.Order.{order-lt, order-le}
+use Rattle.reader.proofs.SoFar.{so-far, next-guess, begins}
+use Rattle.reader.proofs.look.Statement.{statement}
+use Rattle.reader.proofs.look.Tie as tie
+
+false≢true : false ≡ true → ⊥
+false≢true e = let z : _≡_ {A = ℕ} 0 1 = cc in omega arith
+
+abbrev Inv-loop : tie.InvT-loop
+Inv-loop image board variant n guess₀ i₀ guess i = (i ≤ n) × (guess ≡ guessed (first (page board) i) image) × ((k : ℕ) → k < i + 1 → Fit board image k)
+
+abbrev μ-loop : tie.MeasureT-loop
+μ-loop image board variant n guess₀ i₀ guess i = n - i
+
+image-is : (c : tie.After-shared-slice-known Inv-loop μ-loop) → Image (now (c .before .args .image))
+image-is c = record { size = c .before .pre; byte = λ a. c .shared-slice-known .given a .fits }
+
+loop-holds : tie.Need-loop-holds Inv-loop μ-loop
+loop-holds c = let a = c .before .before .before .args in (omega arith, c .blank .ensures, λ k h. let z : 0 ≡ k = omega arith in subst (Fit (a .board) (now (a .image))) z (begins (a .board) (now (a .image))))
+
+reader-order-requires : tie.Need-reader-order-requires Inv-loop μ-loop
+reader-order-requires c κs =
+    let r = c .before .before .before in
+    let b = r .before .before .args .board in
+    omega (arith, r .registers .ensures, order-le (b .variant) (b .«tcxo_used»))
+
+shared-slice-read-learn : tie.Need-shared-slice-read-learn Inv-loop μ-loop
+shared-slice-read-learn c =
+    let o = c .before in
+    let r = o .before .before .before .before in
+    let b = r .before .before .args .board in
+    let bound = order-lt (b .variant) (o .before .before .loop .i) (omega (arith, r .registers .ensures, order-le (b .variant) (b .«tcxo_used»))) in
+    omega (arith, o .reader-order .ensures, bound)
+
+-- the guess after one register more
+improved-guess : (c : tie.After-learn Inv-loop μ-loop) → let l = c .before .before .before .before in let a = l .before .before .before .before .args in
+    c .learn .result ≡ guessed (first (page (a .board)) (l .loop .i + 1)) (now (a .image))
+improved-guess c =
+    let o = c .before .before in
+    let l = o .before .before in
+    let r = l .before .before in
+    let a = r .before .before .args in
+    let next = next-guess (a .board) (l .loop .i) (omega (arith, r .registers .ensures)) (now (a .image)) (l .loop .guess) (l .loop .inv .1) in
+    rw (add-one (l .loop .i)) ((rw (o .reader-order .ensures) at (c .learn .ensures)) ∙ next)
+
+returns : tie.Need-returns Inv-loop μ-loop
+returns c =
+    let g = c .before .before in
+    let l = g .before .before .before .before in
+    let r = l .before .before in
+    let a = r .before .before .args in
+    let i = l .loop .i in
+    let unfit : Fit (a .board) (now (a .image)) (i + 1) → ⊥ =
+        λ f. subst T (sym (c .before .fits2 .ensures) ∙ not-true _ (c .if1 .taken)) (so-far (a .board) (g .learn .result) (i + 1) (now (a .image)) (image-is (r .before)) (omega (arith, r .registers .ensures)) (improved-guess g) .1 f) in
+    record {
+      count = record { within = omega (arith, r .registers .ensures); before = λ n h. l .loop .inv .2 n (omega arith); last = λ f. absurd (unfit f) };
+      guess = improved-guess g;
+      fit = λ e. absurd (false≢true e);
+      unfit = λ e. unfit;
+    }
+
+loop-again : tie.Need-loop-again Inv-loop μ-loop
+loop-again c =
+    let g = c .before .before in
+    let l = g .before .before .before .before in
+    let r = l .before .before in
+    let a = r .before .before .args in
+    let i = l .loop .i in
+    let here = so-far (a .board) (g .learn .result) (i + 1) (now (a .image)) (image-is (r .before)) (omega (arith, r .registers .ensures)) (improved-guess g) .0
+        (rw (← c .before .fits2 .ensures, not-false (c .before .fits2 .result) (c .if1 .left)) tt) in
+    (omega arith, improved-guess g, below-more _ _ (l .loop .inv .2) here)
+
+returns-2 : tie.Need-returns-2 Inv-loop μ-loop
+returns-2 c =
+    let l = c .before in
+    let r = l .before .before in
+    let i = l .loop .i in
+    record {
+      count = record { within = omega (arith, r .registers .ensures); before = λ n h. l .loop .inv .2 n (omega arith); last = λ f. omega (arith, r .registers .ensures) };
+      guess = l .loop .inv .1;
+      fit = λ e. l .loop .inv .2 i (omega arith);
+      unfit = λ e. absurd (false≢true (sym e));
+    }
+
+pub look-spec : {M : Type 1} → statement M
+look-spec =
+    tie.close
+    (tie.spec
+    Inv-loop
+    μ-loop
+    (λ c κs. search needs)
+    (λ c κs. search needs)
+    loop-holds
+    reader-order-requires
+    (λ c. search needs)
+    shared-slice-read-learn
+    (λ c κs. search needs)
+    (λ c. search needs)
+    (λ c κs. search needs)
+    returns
+    (λ c. search needs)
+    loop-again
+    returns-2)

@@ -1,0 +1,28 @@
+-- How far the reader looks: up to the first register with which the values so far fit no accepted link.
+use mathlib.Core.Path.{_≡_}
+use mathlib.Core.Bool.{true, false}
+use mathlib.Core.List.{List}
+use Prim.Native.Nat.{ℕ, _≤_, _<_}
+use lib.Dec.{T}
+use Rattle.registers.specs.declared.board.Board.{Board}
+use Rattle.page.specs.Page.{guess as guessed, first, fits}
+use Rattle.lora_page.specs.Lora.{page}
+use Rattle.reader.specs.declared.Seen.{Seen}
+use Rattle.reader.specs.Tests.{registers}
+
+-- the first n values of the image are those of an accepted link
+abbrev pub Fit : Board → List ℕ → ℕ → Type 0
+Fit b im n = T (fits (first (page b) n) im)
+
+-- r is the least number of values that do not fit, or the number of all where all of them fit
+pub record Examined (b : Board) (im : List ℕ) (r : ℕ) : Type 0 where
+  pub within : r ≤ registers b
+  pub before : (n : ℕ) → n < r → Fit b im n
+  pub last : Fit b im r → r ≡ registers b
+
+-- a look tells as much, with the guess from these values and whether they fit
+pub record Looked (b : Board) (im : List ℕ) (k : Seen) : Type 0 where
+  pub count : Examined b im (k .examined)
+  pub guess : k .guess ≡ guessed (first (page b) (k .examined)) im
+  pub fit : k .fits ≡ true → Fit b im (k .examined)
+  pub unfit : k .fits ≡ false → Fit b im (k .examined) → ⊥

@@ -1,0 +1,109 @@
+// Results: the bytes used, then an answer's values, each a word of 64 bits, as many as there are places for.
+ghost use mathlib.Core.Path.{_≡_};
+ghost use mathlib.Core.List.{[], _∷_};
+ghost use lib.ListN.{set};
+ghost use lib.IntN.{pos};
+ghost use Rattle.params.specs.Errors.{valuesOf, refusal};
+ghost use Rattle.results.specs.Results.{word, words, placed, Tells};
+use params::mod_params::RadioError;
+
+// Two's complement: a cast that lost the sign would be undefined.
+pub fn word(value: i32) -> u64
+    ensures { λ r. ⌜ r ≡ word value ⌝ }
+{
+    if value < 0 {
+        let below = -1 - value;
+        0xffff_ffff_ffff_ffff - below as u64
+    } else {
+        value as u64
+    }
+}
+
+pub fn word_16(value: i16) -> u64
+    ensures { λ r. ⌜ r ≡ word value ⌝ }
+{
+    word(value as i32)
+}
+
+// A value beyond the last place is dropped.
+pub fn put(results: &mut [u64], place: usize, value: u64)
+    ensures { λ _. ⌜ now (results .exit) ≡ set (now (results .entry)) place value ⌝ }
+{
+    if place < results.len() {
+        results[place] = value;
+    }
+}
+
+fn put_values(results: &mut [u64], e: RadioError)
+    ensures { λ _. ⌜ now (results .exit) ≡ placed 1 (words (valuesOf e)) (now (results .entry)) ⌝ }
+{
+    match e {
+        RadioError::OpError(code) => put(results, 1, code as u64),
+        RadioError::InvalidBaseAddress(tx, rx) => {
+            put(results, 1, tx as u64);
+            put(results, 2, rx as u64);
+        }
+        RadioError::PayloadSizeUnexpected(length) => put(results, 1, length as u64),
+        RadioError::PayloadSizeMismatch(length, room) => {
+            put(results, 1, length as u64);
+            put(results, 2, room as u64);
+        }
+        _ => {}
+    }
+}
+
+// Places 1 to 5.
+fn put_first(results: &mut [u64], v1: u64, v2: u64, v3: u64, v4: u64, v5: u64)
+    ensures { λ _. ⌜ now (results .exit) ≡ placed 1 (v1 ∷ v2 ∷ v3 ∷ v4 ∷ v5 ∷ []) (now (results .entry)) ⌝ }
+{
+    put(results, 1, v1);
+    put(results, 2, v2);
+    put(results, 3, v3);
+    put(results, 4, v4);
+    put(results, 5, v5);
+}
+
+// What no log is lent to has 0 bytes of it used; then five values.
+pub fn put_five(results: &mut [u64], v1: u64, v2: u64, v3: u64, v4: u64, v5: u64)
+    ensures { λ _. ⌜ now (results .exit) ≡ placed 0 (0 ∷ v1 ∷ v2 ∷ v3 ∷ v4 ∷ v5 ∷ []) (now (results .entry)) ⌝ }
+{
+    put(results, 0, 0);
+    put_first(results, v1, v2, v3, v4, v5);
+}
+
+// Places 6 to 10.
+pub fn put_five_more(results: &mut [u64], v6: u64, v7: u64, v8: u64, v9: u64, v10: u64)
+    ensures { λ _. ⌜ now (results .exit) ≡ placed 6 (v6 ∷ v7 ∷ v8 ∷ v9 ∷ v10 ∷ []) (now (results .entry)) ⌝ }
+{
+    put(results, 6, v6);
+    put(results, 7, v7);
+    put(results, 8, v8);
+    put(results, 9, v9);
+    put(results, 10, v10);
+}
+
+// The bytes used, and one value.
+pub fn put_one(results: &mut [u64], used: usize, value: u64)
+    ensures { λ _. ⌜ now (results .exit) ≡ placed 0 (used ∷ value ∷ []) (now (results .entry)) ⌝ }
+{
+    put(results, 0, used as u64);
+    put(results, 1, value);
+}
+
+// The bytes used, and two values.
+pub fn put_two(results: &mut [u64], used: usize, first: u64, second: u64)
+    ensures { λ _. ⌜ now (results .exit) ≡ placed 0 (used ∷ first ∷ second ∷ []) (now (results .entry)) ⌝ }
+{
+    put(results, 0, used as u64);
+    put(results, 1, first);
+    put(results, 2, second);
+}
+
+// A refusal's number, with its values.
+pub fn refused(results: &mut [u64], used: usize, e: RadioError) -> u8
+    ensures { λ r. ⌜ Tells (refusal e) used (now (results .entry)) (pos r) (now (results .exit)) ⌝ }
+{
+    put(results, 0, used as u64);
+    put_values(results, e);
+    e.number()
+}

@@ -1,0 +1,3 @@
+// Answers and boards for callers in C: numbers, and results that they lend.
+pub mod answers;
+pub mod boards;

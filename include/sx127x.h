@@ -1,0 +1,269 @@
+/* sx127x.h: drives Semtech's SX1272 and SX1276 LoRa radios through libexports.a.
+ *
+ * The library does not touch a bus. You lend it an image of the radio's 128 registers as last read, and a log; a call
+ * appends to the log what is to be done on the bus, in order, and leaves the image as the registers will be then. Play
+ * the new records onto the bus and the radio has done what was asked.
+ *
+ *   uint8_t image[SX127X_IMAGE_SIZE];               the registers, as last read
+ *   uint8_t log[SX127X_MAX_RECORDS * SX127X_RECORD_SIZE];
+ *   int64_t results[SX127X_MAX_RESULTS];
+ *   int32_t answer = sx127x_set_channel(image, sizeof image, log, sizeof log, 0, 868100000, results, SX127X_MAX_RESULTS);
+ *
+ * A call answers for any numbers and any lengths: there is nothing in it that can fail in another way. It keeps no
+ * state, allocates nothing and does not wait.
+ *
+ * Every call answers 0 (SX127X_OK) or the number of a refusal. A refusal changes and appends nothing, but for two:
+ * SX127X_PAYLOAD_SIZE_MISMATCH has read RegRxNbBytes, SX127X_RECEIVE_TIMEOUT the flags, and cleared them where asked.
+ *
+ * What else a call tells it puts into `results`, as many as there are places for (NULL and 0 for none):
+ *   results[0]   the bytes of the log that are used afterwards, also after a refusal; hand them to the next call.
+ *                0 from a call that takes no log.
+ *   results[1..] the values, as each function's comment lists them; after a refusal those that its name below lists.
+ * Other places are left alone. A number of type size_t comes as the int64_t of the same 64 bits.
+ *
+ * The slices that are lent to one call must not overlap. A slice of length 0 may be NULL.
+ */
+#ifndef SX127X_H
+#define SX127X_H
+
+#include <stddef.h>
+#include <stdint.h>
+
+#ifdef __cplusplus
+extern "C" {
+#endif
+
+/* ---- sizes */
+
+enum {
+    SX127X_IMAGE_SIZE = 128, /* an image, exactly */
+    SX127X_FIFO_SIZE = 256,  /* a FIFO, exactly */
+    SX127X_RECORD_SIZE = 3,  /* a record of the log; a log is a whole number of them */
+    SX127X_MAX_RECORDS = 30, /* no call appends more */
+    SX127X_MAX_RESULTS = 11, /* no call tells more */
+    SX127X_MAX_PAYLOAD = 255
+};
+
+/* ---- records: kind, address, data */
+
+enum {
+    SX127X_READ = 0,        /* a register was read: address, the byte that the image has there */
+    SX127X_WRITE = 1,       /* a register is written: address, byte */
+    SX127X_FIFO_READ = 2,   /* FIFO bytes are read: 0, how many */
+    SX127X_FIFO_WRITE = 3,  /* FIFO bytes are written: 0, how many */
+    SX127X_RF_SWITCH = 4,   /* the antenna switch: 0, one of the next three */
+    SX127X_RESET_PIN = 5,   /* the reset pin: 0, 0 */
+    SX127X_SLEEP_WRITE = 6  /* as SX127X_WRITE, but do not wait for the radio afterwards */
+};
+
+enum { SX127X_SWITCH_OFF = 0, SX127X_SWITCH_RX = 1, SX127X_SWITCH_TX = 2 };
+
+/* ---- answers */
+
+enum {
+    SX127X_OK = 0,
+    SX127X_INVALID_CONFIGURATION = 8,             /* an argument is none of its codes */
+    SX127X_INVALID_RADIO_MODE = 9,                /* no interrupts come in this mode */
+    SX127X_INVALID_BASE_ADDRESS = 11,             /* a base above 255; both bases */
+    SX127X_PAYLOAD_SIZE_UNEXPECTED = 12,          /* a payload over 255 bytes; its length */
+    SX127X_PAYLOAD_SIZE_MISMATCH = 13,            /* a packet over the buffer's length; both lengths */
+    SX127X_UNAVAILABLE_SPREADING_FACTOR = 14,     /* SF5 */
+    SX127X_UNAVAILABLE_BANDWIDTH = 15,            /* SX1272: only 125, 250 and 500 kHz */
+    SX127X_INVALID_BANDWIDTH_FOR_FREQUENCY = 16,  /* 250 or 500 kHz below 400 MHz */
+    SX127X_INVALID_SF6_EXPLICIT_HEADER = 17,      /* SF6 wants an implicit header */
+    SX127X_RECEIVE_TIMEOUT = 20,                  /* no packet came in time */
+    SX127X_DUTY_CYCLE_UNSUPPORTED = 21,           /* these radios have no duty-cycle receive */
+    SX127X_FREQUENCY_OUT_OF_RANGE = 23,           /* 1,024 MHz or more */
+    SX127X_LOG_FULL = 24,                         /* no room for the call's records */
+    SX127X_CARRIER_UNSUPPORTED = 25,              /* the carrier test is the SX1276's alone */
+    SX127X_BAD_IMAGE = 26,                        /* an image, FIFO or log of a wrong length, or used beyond it */
+    SX127X_NOT_A_LINK = 27                        /* no link leaves these registers */
+};
+
+/* An answer's name, for people. */
+static inline const char *sx127x_answer_name(int32_t answer)
+{
+    switch (answer) {
+    case SX127X_OK: return "ok";
+    case SX127X_INVALID_CONFIGURATION: return "InvalidConfiguration";
+    case SX127X_INVALID_RADIO_MODE: return "InvalidRadioMode";
+    case SX127X_INVALID_BASE_ADDRESS: return "InvalidBaseAddress";
+    case SX127X_PAYLOAD_SIZE_UNEXPECTED: return "PayloadSizeUnexpected";
+    case SX127X_PAYLOAD_SIZE_MISMATCH: return "PayloadSizeMismatch";
+    case SX127X_UNAVAILABLE_SPREADING_FACTOR: return "UnavailableSpreadingFactor";
+    case SX127X_UNAVAILABLE_BANDWIDTH: return "UnavailableBandwidth";
+    case SX127X_INVALID_BANDWIDTH_FOR_FREQUENCY: return "InvalidBandwidthForFrequency";
+    case SX127X_INVALID_SF6_EXPLICIT_HEADER: return "InvalidSF6ExplicitHeaderRequest";
+    case SX127X_RECEIVE_TIMEOUT: return "ReceiveTimeout";
+    case SX127X_DUTY_CYCLE_UNSUPPORTED: return "DutyCycleUnsupported";
+    case SX127X_FREQUENCY_OUT_OF_RANGE: return "FrequencyOutOfRange";
+    case SX127X_LOG_FULL: return "LogFull";
+    case SX127X_CARRIER_UNSUPPORTED: return "CarrierUnsupported";
+    case SX127X_BAD_IMAGE: return "BadImage";
+    case SX127X_NOT_A_LINK: return "NotALink";
+    default: return "no answer of this driver";
+    }
+}
+
+/* ---- arguments. A flag is 0 or 1. */
+
+/* A board: a radio, and any of the flags, or-ed. Other bits are not looked at. */
+enum {
+    SX127X_SX1272 = 0,
+    SX127X_SX1276 = 1,
+    SX127X_TCXO = 2,     /* a temperature-compensated oscillator */
+    SX127X_TX_BOOST = 4, /* transmits by the PA_BOOST pin */
+    SX127X_RX_BOOST = 8  /* receives with the boosted amplifier */
+};
+
+enum { SX127X_SF5 = 5, SX127X_SF6, SX127X_SF7, SX127X_SF8, SX127X_SF9, SX127X_SF10, SX127X_SF11, SX127X_SF12 };
+
+/* In kHz, rounded down. The SX1272 has the last three. */
+enum {
+    SX127X_BW_7 = 0,
+    SX127X_BW_10,
+    SX127X_BW_15,
+    SX127X_BW_20,
+    SX127X_BW_31,
+    SX127X_BW_41,
+    SX127X_BW_62,
+    SX127X_BW_125,
+    SX127X_BW_250,
+    SX127X_BW_500
+};
+
+enum { SX127X_CR_4_5 = 1, SX127X_CR_4_6, SX127X_CR_4_7, SX127X_CR_4_8 };
+
+enum {
+    SX127X_MODE_SLEEP = 0,
+    SX127X_MODE_STANDBY,
+    SX127X_MODE_FREQUENCY_SYNTHESIS,
+    SX127X_MODE_TRANSMIT,
+    SX127X_MODE_RECEIVE,
+    SX127X_MODE_CHANNEL_ACTIVITY_DETECTION,
+    SX127X_MODE_NONE /* for sx127x_set_irq_params */
+};
+
+enum { SX127X_RX_SINGLE = 0, SX127X_RX_CONTINUOUS, SX127X_RX_DUTY_CYCLE };
+
+/* What sx127x_process_irq_event found. */
+enum { SX127X_EVENT_NOTHING = 0, SX127X_EVENT_PREAMBLE_RECEIVED, SX127X_EVENT_DONE };
+
+/* ---- setting up */
+
+/* Sets the sync word of a public or a private network, the oscillator where the board has one, and both FIFO bases. */
+int32_t sx127x_init_lora(uint8_t *image, size_t image_len, uint8_t *log, size_t log_len, size_t used, uint8_t board,
+                         uint8_t public_network, int64_t *results, size_t results_len);
+
+/* Sets both FIFO bases to 0; bases above 255 are refused. */
+int32_t sx127x_set_tx_rx_buffer_base_address(uint8_t *image, size_t image_len, uint8_t *log, size_t log_len,
+                                             size_t used, size_t tx_base_addr, size_t rx_base_addr, int64_t *results,
+                                             size_t results_len);
+
+/* Sets the frequency. */
+int32_t sx127x_set_channel(uint8_t *image, size_t image_len, uint8_t *log, size_t log_len, size_t used,
+                           uint32_t frequency_in_hz, int64_t *results, size_t results_len);
+
+/* Sets the power, in dBm, held to what the board can do; the ramp is 40 us where is_tx_prep is 1, else 250 us. */
+int32_t sx127x_set_tx_power_and_ramp_time(uint8_t *image, size_t image_len, uint8_t *log, size_t log_len, size_t used,
+                                          uint8_t board, int32_t power, uint8_t is_tx_prep, int64_t *results,
+                                          size_t results_len);
+
+/* ---- modulation and packets */
+
+/* Judges a modulation. Values: spreading factor, bandwidth, coding rate, low data rate optimize, hertz. */
+int32_t sx127x_create_modulation_params(uint8_t board, uint8_t spreading_factor, uint8_t bandwidth,
+                                        uint8_t coding_rate, uint32_t frequency_in_hz, int64_t *results,
+                                        size_t results_len);
+
+/* Judges a packet's parameters. Values: preamble, implicit header, payload length, CRC, IQ. */
+int32_t sx127x_create_packet_params(uint16_t preamble_length, uint8_t implicit_header, uint8_t payload_length,
+                                    uint8_t crc_on, uint8_t iq_inverted, uint8_t spreading_factor, int64_t *results,
+                                    size_t results_len);
+
+/* Sets spreading factor, bandwidth, coding rate and low data rate optimize. */
+int32_t sx127x_set_modulation_params(uint8_t *image, size_t image_len, uint8_t *log, size_t log_len, size_t used,
+                                     uint8_t board, uint8_t spreading_factor, uint8_t bandwidth, uint8_t coding_rate,
+                                     uint8_t low_data_rate_optimize, int64_t *results, size_t results_len);
+
+/* Sets preamble, header, CRC and IQ. The payload's length reaches no register here: sx127x_set_payload sets it. */
+int32_t sx127x_set_packet_params(uint8_t *image, size_t image_len, uint8_t *log, size_t log_len, size_t used,
+                                 uint8_t board, uint16_t preamble_length, uint8_t implicit_header,
+                                 uint8_t payload_length, uint8_t crc_on, uint8_t iq_inverted, int64_t *results,
+                                 size_t results_len);
+
+/* ---- what the radio does */
+
+/* Resets the radio and puts it to sleep. */
+int32_t sx127x_reset(uint8_t *image, size_t image_len, uint8_t *log, size_t log_len, size_t used, int64_t *results,
+                     size_t results_len);
+
+/* Standby, the antenna off. */
+int32_t sx127x_set_standby(uint8_t *image, size_t image_len, uint8_t *log, size_t log_len, size_t used,
+                           int64_t *results, size_t results_len);
+
+/* Sleep, the antenna off. */
+int32_t sx127x_set_sleep(uint8_t *image, size_t image_len, uint8_t *log, size_t log_len, size_t used,
+                         int64_t *results, size_t results_len);
+
+/* Transmits the payload. */
+int32_t sx127x_do_tx(uint8_t *image, size_t image_len, uint8_t *log, size_t log_len, size_t used, int64_t *results,
+                     size_t results_len);
+
+/* Receives: SX127X_RX_SINGLE waits `symbols` symbols for a preamble, held to 4 to 1,023. */
+int32_t sx127x_do_rx(uint8_t *image, size_t image_len, uint8_t *log, size_t log_len, size_t used, uint8_t board,
+                     uint8_t rx_mode, uint16_t symbols, int64_t *results, size_t results_len);
+
+/* Looks for activity on the channel. */
+int32_t sx127x_do_cad(uint8_t *image, size_t image_len, uint8_t *log, size_t log_len, size_t used, uint8_t board,
+                      int64_t *results, size_t results_len);
+
+/* Transmits a carrier, for tests. */
+int32_t sx127x_set_tx_continuous_wave_mode(uint8_t *image, size_t image_len, uint8_t *log, size_t log_len, size_t used,
+                                           uint8_t board, int64_t *results, size_t results_len);
+
+/* ---- packets */
+
+/* Puts a payload into the FIFO and sets its length. */
+int32_t sx127x_set_payload(uint8_t *image, size_t image_len, uint8_t *fifo, size_t fifo_len, uint8_t *log,
+                           size_t log_len, size_t used, const uint8_t *payload, size_t payload_len, int64_t *results,
+                           size_t results_len);
+
+/* Takes the packet that was received out of the FIFO. Value: its length. */
+int32_t sx127x_get_rx_payload(uint8_t *image, size_t image_len, const uint8_t *fifo, size_t fifo_len, uint8_t *log,
+                              size_t log_len, size_t used, uint8_t *buffer, size_t buffer_len, int64_t *results,
+                              size_t results_len);
+
+/* The signal of that packet. Values: RSSI in dBm, SNR in dB. */
+int32_t sx127x_get_rx_packet_status(const uint8_t *image, size_t image_len, uint8_t *log, size_t log_len, size_t used,
+                                    uint8_t board, int64_t *results, size_t results_len);
+
+/* ---- interrupts */
+
+/* Lets through the interrupts of a mode. rx_mode counts in SX127X_MODE_RECEIVE alone. */
+int32_t sx127x_set_irq_params(uint8_t *image, size_t image_len, uint8_t *log, size_t log_len, size_t used,
+                              uint8_t mode, uint8_t rx_mode, int64_t *results, size_t results_len);
+
+/* What came in a mode; clears the flags where asked. Value: an SX127X_EVENT; after SX127X_EVENT_DONE in
+ * SX127X_MODE_CHANNEL_ACTIVITY_DETECTION a second one, 1 where there was activity. */
+int32_t sx127x_process_irq_event(uint8_t *image, size_t image_len, uint8_t *log, size_t log_len, size_t used,
+                                 uint8_t mode, uint8_t rx_mode, uint8_t clear, int64_t *results, size_t results_len);
+
+/* ---- whole links */
+
+/* Programs a link: network, frequency, modulation, packets and power, in 30 records at most. */
+int32_t sx127x_program(uint8_t *image, size_t image_len, uint8_t *log, size_t log_len, size_t used, uint8_t board,
+                       uint8_t public_network, uint8_t spreading_factor, uint8_t bandwidth, uint8_t coding_rate,
+                       uint32_t frequency_in_hz, uint16_t preamble_length, uint8_t implicit_header, uint8_t crc_on,
+                       uint8_t iq_inverted, int32_t power, int64_t *results, size_t results_len);
+
+/* Reads the link that an image holds. Values: public network, spreading factor, bandwidth, coding rate, hertz,
+ * preamble, implicit header, CRC, IQ, power in dBm. Programming them again changes no register; hertz and power are
+ * those that the registers tell, so they may differ from those that were asked for. */
+int32_t sx127x_read_link(const uint8_t *image, size_t image_len, uint8_t board, int64_t *results, size_t results_len);
+
+#ifdef __cplusplus
+}
+#endif
+
+#endif
