@@ -71,7 +71,7 @@ returns c =
     let a = r .before .before .args in
     let i = l .loop .i in
     let unfit : Fit (a .board) (now (a .image)) (i + 1) → ⊥ =
-        λ f. subst T (sym (c .before .fits2 .ensures) ∙ not-true _ (c .if1 .taken)) (so-far (a .board) (g .learn .result) (i + 1) (now (a .image)) (image-is (r .before)) (omega (arith, r .registers .ensures)) (improved-guess g) .1 f) in
+    λ f. subst T (sym (c .before .fits2 .ensures) ∙ not-true _ (c .if1 .taken)) (so-far (a .board) (g .learn .result) (i + 1) (now (a .image)) (image-is (r .before)) (omega (arith, r .registers .ensures)) (improved-guess g) .1 f) in
     record {
       count = record { within = omega (arith, r .registers .ensures); before = λ n h. l .loop .inv .2 n (omega arith); last = λ f. absurd (unfit f) };
       guess = improved-guess g;
@@ -87,7 +87,7 @@ loop-again c =
     let a = r .before .before .args in
     let i = l .loop .i in
     let here = so-far (a .board) (g .learn .result) (i + 1) (now (a .image)) (image-is (r .before)) (omega (arith, r .registers .ensures)) (improved-guess g) .0
-        (rw (← c .before .fits2 .ensures, not-false (c .before .fits2 .result) (c .if1 .left)) tt) in
+    (rw (← c .before .fits2 .ensures, not-false (c .before .fits2 .result) (c .if1 .left)) tt) in
     (omega arith, improved-guess g, below-more _ _ (l .loop .inv .2) here)
 
 returns-2 : tie.Need-returns-2 Inv-loop μ-loop

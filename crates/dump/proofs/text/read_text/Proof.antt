@@ -92,8 +92,7 @@ loop-again c =
     let was = take (l .loop .n) (l .loop .bytes) in
     let rest = drop (i + 1) s in
     let verdict = rw (← k .step-at .ensures) at (turns.verdict-more s i (t .loop-test .taken) (l .loop .state) (l .loop .n)) in
-    let bytes = rw (← k .step-at .ensures) at (turns.bytes-more s i (t .loop-test .taken) (l .loop .state)) in
-    (
+    let bytes = rw (← k .step-at .ensures) at (turns.bytes-more s i (t .loop-test .taken) (l .loop .state)) in (
       omega arith,
       omega (arith, p .keep .ensures .0, arms.at-most-one read),
       l .loop .inv .2 ∙ sym (p .keep .ensures .1),
@@ -124,8 +123,7 @@ returns-3 c =
     let s = now (a .s) in
     let none = drop-of-length-le s (e .loop-test .left) in
     let verdict = rw none at (l .loop .inv .3) in
-    let all : l .loop .n ≡ 128 → l .loop .bytes ≡ bytesFrom Between s = λ n. sym (turns.filled (l .loop .bytes) (l .loop .n) (n ∙ l .loop .inv .2)) ∙ (rw none at (l .loop .inv .4 (omega arith))) in
-    (
+    let all : l .loop .n ≡ 128 → l .loop .bytes ≡ bytesFrom Between s = λ n. sym (turns.filled (l .loop .bytes) (l .loop .n) (n ∙ l .loop .inv .2)) ∙ (rw none at (l .loop .inv .4 (omega arith))) in (
       f .finish .ensures .0 ∙ verdict,
       f .finish .ensures .1 ∙ arms.left-alike (l .loop .state) (l .loop .i) (l .loop .n) (l .loop .bytes) (bytesFrom Between s) (now (a .image)) all
           ∙ ap (λ (r : Read). leave r (bytesFrom Between s) (now (a .image))) verdict,
