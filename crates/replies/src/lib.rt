@@ -84,7 +84,7 @@ pub fn put_value(v: i32, out: &mut [u8], at: usize) -> usize
     put_signed(v, out, at)
 }
 
-fn wide(v: i16) -> i32
+pub fn wide(v: i16) -> i32
     ensures { λ r. ⌜ r ≡ v ⌝ }
 {
     v as i32

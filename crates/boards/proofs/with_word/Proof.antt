@@ -1,3 +1,5 @@
+-- `boards::with_word` meets its contract: each test is one of the definition.
+-- Assumes nothing.
 use borrow.Author.Needs.{needs}
 use Rattle.boards.specs.Boards.{wordedBoard}
 use Rattle.boards.proofs.with_word.Statement.{statement}

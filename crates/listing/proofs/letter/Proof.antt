@@ -1,3 +1,5 @@
+-- `listing::letter` meets its contract: the table has the letter at the kind.
+-- Assumes nothing.
 use borrow.Author.Needs.{needs}
 use borrow.Author.Tests.{lt-ltb, le-ltb}
 use Rattle.listing.proofs.letter.Statement.{statement}

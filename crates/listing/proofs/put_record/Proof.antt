@@ -1,3 +1,5 @@
+-- `listing::put_record` meets its contract: one text behind the other.
+-- Assumes nothing.
 use borrow.Author.Needs.{needs}
 use Rattle.printing.proofs.Appending.{then}
 use native.Mathlib.Omega.{arith}

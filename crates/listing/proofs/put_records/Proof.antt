@@ -1,3 +1,5 @@
+-- `listing::put_records` meets its contract: what is left gives the whole.
+-- Assumes nothing.
 use borrow.Author.Needs.{needs}
 use Rattle.listing.proofs.Records.{record-more, none-left}
 use Rattle.listing.specs.Records.{recordsText}

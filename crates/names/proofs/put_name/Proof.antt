@@ -1,3 +1,5 @@
+-- `names::put_name` meets its contract: the table has the name at the number.
+-- Assumes nothing.
 use borrow.Author.Needs.{needs}
 use Rattle.printing.proofs.Appending.{same}
 use Rattle.names.proofs.Table.{at-number, short}

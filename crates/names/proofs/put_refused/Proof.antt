@@ -1,3 +1,5 @@
+-- `names::put_refused` meets its contract: one text behind the other.
+-- Assumes nothing.
 use borrow.Author.Needs.{needs}
 use Rattle.printing.proofs.Appending.{then}
 use native.Mathlib.Omega.{arith}

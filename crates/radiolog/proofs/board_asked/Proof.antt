@@ -1,3 +1,5 @@
+-- `radiolog::board_asked` is safe and ends: arguments are finitely many.
+-- Assumes nothing.
 use borrow.Author.Needs.{needs}
 use Prim.Native.Nat.{_-_}
 use Rattle.radiolog.proofs.board_asked.Statement.{statement}

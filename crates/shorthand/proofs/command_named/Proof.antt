@@ -1,3 +1,5 @@
+-- `shorthand::command_named` meets its contract: the three lists, one behind the other.
+-- Assumes nothing.
 use borrow.Author.Needs.{needs}
 use Rattle.shorthand.specs.Shorthand.{commandOf}
 use Rattle.shorthand.proofs.command_named.Statement.{statement}

@@ -1,3 +1,5 @@
+-- `shorthand::modes` meets its contract: each line is one step of the definition.
+-- Assumes nothing.
 use borrow.Author.Needs.{needs}
 use Rattle.shorthand.proofs.modes.Statement.{statement}
 use Rattle.shorthand.proofs.modes.Tie as tie

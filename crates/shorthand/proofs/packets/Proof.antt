@@ -1,3 +1,5 @@
+-- `shorthand::packets` meets its contract: each line is one step of the definition.
+-- Assumes nothing.
 use borrow.Author.Needs.{needs}
 use Rattle.shorthand.proofs.packets.Statement.{statement}
 use Rattle.shorthand.proofs.packets.Tie as tie

@@ -1,3 +1,5 @@
+-- `shorthand::settings` meets its contract: each line is one step of the definition.
+-- Assumes nothing.
 use borrow.Author.Needs.{needs}
 use Rattle.shorthand.proofs.settings.Statement.{statement}
 use Rattle.shorthand.proofs.settings.Tie as tie

@@ -1,3 +1,5 @@
+-- `orders::judge::bytes_flaw` meets its contract: the test is the definition's.
+-- Assumes nothing.
 use borrow.Author.Needs.{needs}
 use Rattle.orders.specs.Orders.{bytesFlaw}
 use Rattle.orders.proofs.judge.bytes_flaw.Statement.{statement}

@@ -1,3 +1,5 @@
+-- `orders::judge::is_bytes` meets its contract: each test is one of the definition.
+-- Assumes nothing.
 use borrow.Author.Needs.{needs}
 use borrow.Author.Tests.{lt-leb, le-leb}
 use Rattle.orders.proofs.judge.is_bytes.Statement.{statement}

@@ -1,3 +1,5 @@
+-- `orders::judge::is_send` meets its contract: each test is one of the definition.
+-- Assumes nothing.
 use borrow.Author.Needs.{needs}
 use Rattle.orders.proofs.judge.is_send.Statement.{statement}
 use Rattle.orders.proofs.judge.is_send.Tie as tie

@@ -1,3 +1,5 @@
+-- `orders::judge::judged` meets its contract: each arm is one of the definition.
+-- Assumes nothing.
 use borrow.Author.Needs.{needs}
 use Rattle.orders.specs.Orders.{flawOf}
 use Rattle.orders.proofs.judge.judged.Statement.{statement}

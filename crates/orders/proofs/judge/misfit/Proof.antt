@@ -1,3 +1,5 @@
+-- `orders::judge::misfit` meets its contract: the first misfit of what is left is that of the whole.
+-- Assumes nothing.
 use borrow.Author.Needs.{needs}
 use Prim.Native.Nat.{_+_}
 use Rattle.arguments.specs.Arguments.{ofKind}

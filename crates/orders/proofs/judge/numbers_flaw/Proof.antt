@@ -1,3 +1,5 @@
+-- `orders::judge::numbers_flaw` meets its contract: the test is the definition's.
+-- Assumes nothing.
 use borrow.Author.Needs.{needs}
 use Rattle.orders.specs.Orders.{numbersFlaw}
 use borrow.Author.Tests.{lt-ltb, le-ltb}

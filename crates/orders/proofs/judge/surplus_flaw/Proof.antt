@@ -1,3 +1,5 @@
+-- `orders::judge::surplus_flaw` meets its contract: the test is the definition's.
+-- Assumes nothing.
 use borrow.Author.Needs.{needs}
 use Rattle.orders.specs.Orders.{surplusFlaw}
 use borrow.Author.Tests.{lt-leb, le-leb}

@@ -1,3 +1,5 @@
+-- `orders::kinds::argument_count` meets its contract: the table has the count at the row.
+-- Assumes nothing.
 use borrow.Author.Needs.{needs}
 use Rattle.orders.proofs.Rows.{rows}
 use native.Mathlib.Omega.{arith}

@@ -1,3 +1,5 @@
+-- `orders::kinds::argument_most` meets its contract: the table has the largest value at the row and the place.
+-- Assumes nothing.
 use borrow.Author.Needs.{needs}
 use Rattle.orders.proofs.Rows.{rows, at-place}
 use native.Mathlib.Omega.{arith}

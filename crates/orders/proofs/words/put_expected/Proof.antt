@@ -1,3 +1,5 @@
+-- `orders::words::put_expected` meets its contract: each arm is one of the definition.
+-- Assumes nothing.
 use borrow.Author.Needs.{needs}
 use native.Mathlib.Omega.{arith}
 use Rattle.orders.proofs.words.put_expected.Statement.{statement}

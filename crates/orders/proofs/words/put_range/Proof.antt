@@ -1,3 +1,5 @@
+-- `orders::words::put_range` meets its contract: the test is the definition's.
+-- Assumes nothing.
 use borrow.Author.Needs.{needs}
 use Rattle.printing.proofs.Appending.{then}
 use borrow.Author.Tests.{eq-eqb, ne-eqb}

@@ -1,3 +1,5 @@
+-- `radiolog::acts::send` is safe and ends: the bytes lie within their place.
+-- Assumes nothing.
 use borrow.Author.Needs.{needs}
 use lib.Seq.{length-take-le}
 use native.Mathlib.Omega.{arith}

@@ -1,3 +1,5 @@
+-- `radiolog::lines::answer_input` is safe and ends: what was read lies within the buffer.
+-- Assumes nothing.
 use borrow.Author.Needs.{needs}
 use native.Mathlib.Omega.{arith}
 use Rattle.radiolog.proofs.lines.answer_input.Statement.{statement}

@@ -1,3 +1,5 @@
+-- `radiolog::lines::answer_line` is safe and ends: the text lies within its place.
+-- Assumes nothing.
 use borrow.Author.Needs.{needs}
 use lib.Seq.{length-take-le}
 use native.Mathlib.Omega.{arith}

@@ -1,3 +1,5 @@
+-- `radiolog::lines::answer_lines` is safe and ends: each turn passes a byte.
+-- Assumes nothing.
 use borrow.Author.Needs.{needs}
 use lib.ListN.{length}
 use Prim.Native.Nat.{_-_, _+_, _≤_}

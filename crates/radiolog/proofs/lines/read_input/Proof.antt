@@ -1,3 +1,5 @@
+-- `radiolog::lines::read_input` is safe and ends: each turn reads a byte.
+-- Assumes nothing.
 use borrow.Author.Needs.{needs}
 use lib.Seq.{length-take-le}
 use lib.ListN.{length}
