@@ -1,5 +1,3 @@
 // Links: whole programming and the reader under one name. Demand 3 stands in proofs/Demand3.antt.
 pub use programming::program;
-pub use reader::examined;
-pub use reader::last_examined;
 pub use reader::read_link;

@@ -4,11 +4,11 @@ ghost use Prim.Native.Nat.{_≤_};
 ghost use lib.ListN.{length};
 use crate::words::Asked;
 use libc::STDOUT_FILENO;
-use link::last_examined;
 use link::read_link;
 use link_text::Oscillator;
 use params::answers::LinkAnswer;
 use params::mod_params::Link;
+use reader::last_examined;
 use registers::board::Board;
 use sheets::Variant;
 
