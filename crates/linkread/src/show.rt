@@ -3,9 +3,9 @@ ghost use mathlib.Core.Path.{_≡_};
 ghost use Prim.Native.Nat.{_≤_};
 ghost use lib.ListN.{length};
 use crate::words::Asked;
+use board_lines::Oscillator;
 use libc::STDOUT_FILENO;
 use link::read_link;
-use link_text::Oscillator;
 use params::answers::LinkAnswer;
 use params::mod_params::Link;
 use reader::last_examined;
@@ -21,31 +21,31 @@ pub fn write_part(fd: i32, text: &[u8], n: usize)
 fn print_link(board: Board, o: Oscillator, pa_config: u8, l: Link) {
     let variant = board.variant;
     let mut out = [0u8; 1024];
-    let at = link_text::put_board(variant, board.tx_boost, o, &mut out, 0);
-    let n = link_text::put_link(board.tx_boost, pa_config, l, &mut out, at);
+    let at = board_lines::put_board(variant, board.tx_boost, o, &mut out, 0);
+    let n = link_lines::put_link(board.tx_boost, pa_config, l, &mut out, at);
     write_part(STDOUT_FILENO, &out, n);
 }
 
 fn print_ruled_out(board: Board, o: Oscillator, register: u8, value: u8) {
     let variant = board.variant;
     let mut out = [0u8; 256];
-    let at = link_text::put_board(variant, board.tx_boost, o, &mut out, 0);
-    let n = link_text::put_ruled_out(register, value, &mut out, at);
+    let at = board_lines::put_board(variant, board.tx_boost, o, &mut out, 0);
+    let n = board_lines::put_ruled_out(register, value, &mut out, at);
     write_part(STDOUT_FILENO, &out, n);
 }
 
 fn print_link_row(name: &[u8], board: Board, l: Link) {
     let mut out = [0u8; 1024];
-    let at = link_text::put_board_fields(board, 0, &mut out, 0);
-    let n = link_text::put_link_fields(l, &mut out, at);
+    let at = link_rows::put_board_fields(board, 0, &mut out, 0);
+    let n = link_rows::put_link_fields(l, &mut out, at);
     io::write_all(STDOUT_FILENO, name);
     write_part(STDOUT_FILENO, &out, n);
 }
 
 fn print_ruled_out_row(name: &[u8], board: Board, register: u8, value: u8) {
     let mut out = [0u8; 512];
-    let at = link_text::put_board_fields(board, 27, &mut out, 0);
-    let n = link_text::put_ruled_out_fields(register, value, &mut out, at);
+    let at = link_rows::put_board_fields(board, 27, &mut out, 0);
+    let n = link_rows::put_ruled_out_fields(register, value, &mut out, at);
     io::write_all(STDOUT_FILENO, name);
     write_part(STDOUT_FILENO, &out, n);
 }
@@ -124,10 +124,8 @@ fn show_possible(a: Asked, name: &[u8], image: &[u8], chip: u16, boost: bool) ->
     match read_link(image, board) {
         LinkAnswer::Found(l) => {
             show_link(a, name, image, board, o, l);
-            if a.table {
-                if also {
-                    show_link(a, name, image, with, o, l);
-                }
+            if a.table && also {
+                show_link(a, name, image, with, o, l);
             }
             true
         }

@@ -1,3 +1,5 @@
+-- `dump::is_raw` meets its contract: the test of what is left is the test of the whole.
+-- Assumes nothing.
 use borrow.Author.Needs.{needs}
 use borrow.Author.Tests.{not-true, not-false}
 use Rattle.dump.specs.Dump.{couldBeHex, isRaw}

@@ -1,3 +1,5 @@
+-- `dump::read` meets its contract: raw bytes are copied, and all else is read as text.
+-- Assumes nothing.
 use borrow.Author.Needs.{needs}
 use Rattle.dump.proofs.Turns.{copied, raw-size}
 use denote.Ref.{now}

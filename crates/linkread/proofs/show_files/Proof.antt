@@ -1,3 +1,5 @@
+-- `linkread::show_files` meets its contract: the words are counted up to their number.
+-- Assumes nothing.
 use borrow.Author.Needs.{needs}
 use Prim.Native.Nat.{_-_}
 use Rattle.linkread.proofs.show_files.Statement.{statement}

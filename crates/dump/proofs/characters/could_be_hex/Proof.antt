@@ -1,3 +1,5 @@
+-- `dump::characters::could_be_hex` meets its contract: each arm is the definition's case.
+-- Assumes nothing.
 use borrow.Author.Needs.{needs}
 use Rattle.dump.proofs.Arms as arms
 use Rattle.dump.proofs.characters.could_be_hex.Statement.{statement}

@@ -1,3 +1,5 @@
+-- `dump::characters::kind_of` meets its contract: each test is one of the definition.
+-- Assumes nothing.
 use borrow.Author.Needs.{needs}
 use Rattle.dump.specs.Characters.{kindOf}
 use Rattle.dump.proofs.characters.kind_of.Statement.{statement}

@@ -1,3 +1,5 @@
+-- `dump::faults::before` meets its contract: a place past the end leaves the whole text.
+-- Assumes nothing.
 use borrow.Author.Needs.{needs}
 use native.Mathlib.Omega.{arith}
 use lib.Seq.{take-all, length-take-le}

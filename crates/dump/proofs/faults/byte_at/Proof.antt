@@ -1,3 +1,5 @@
+-- `dump::faults::byte_at` meets its contract: a place past the end has no byte.
+-- Assumes nothing.
 use borrow.Author.Needs.{needs}
 use denote.Ref.{now}
 use Rattle.reading.proofs.Tests.{past}

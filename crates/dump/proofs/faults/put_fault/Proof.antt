@@ -1,3 +1,5 @@
+-- `dump::faults::put_fault` meets its contract: each arm is the definition's case.
+-- Assumes nothing.
 use borrow.Author.Needs.{needs}
 use Rattle.printing.proofs.Appending.{then, same}
 use native.Mathlib.Omega.{arith}

@@ -1,3 +1,5 @@
+-- `dump::spot::spot_behind` meets its contract: line and column of what is left, counted from here, are those of the whole.
+-- Assumes nothing.
 use borrow.Author.Needs.{needs}
 use Rattle.dump.specs.Spot.{lineFrom, columnFrom}
 use Rattle.dump.proofs.Turns as turns

@@ -1,3 +1,5 @@
+-- `dump::text::finish` meets its contract: 128 bytes are an image, and nothing else is.
+-- Assumes nothing.
 use borrow.Author.Needs.{needs}
 use Rattle.dump.proofs.Turns.{copied}
 use denote.Ref.{now}

@@ -1,3 +1,5 @@
+-- `dump::text::keep` meets its contract: the byte given stands behind those kept.
+-- Assumes nothing.
 use borrow.Author.Needs.{needs}
 use Rattle.dump.proofs.Arms as arms
 use Prim.Native.Nat.{_≤_}

@@ -1,3 +1,5 @@
+-- `dump::text::on_digit` meets its contract: each arm is the definition's case.
+-- Assumes nothing.
 use borrow.Author.Needs.{needs}
 use borrow.Author.Tests.{eq-eqb, ne-eqb, le-leb, lt-leb}
 use Rattle.dump.proofs.text.on_digit.Statement.{statement}

@@ -1,3 +1,5 @@
+-- `dump::text::read_text` meets its contract: reading what is left from this state is reading the whole.
+-- Assumes nothing.
 use borrow.Author.Needs.{needs}
 use Rattle.dump.specs.declared.text.State.{State}
 use Rattle.dump.specs.Dump.{leave, textRead}

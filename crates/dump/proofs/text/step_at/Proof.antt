@@ -1,3 +1,5 @@
+-- `dump::text::step_at` meets its contract: each arm is the definition's case.
+-- Assumes nothing.
 use borrow.Author.Needs.{needs}
 use Rattle.dump.proofs.text.step_at.Statement.{statement}
 use Rattle.dump.proofs.text.step_at.Tie as tie

@@ -1,3 +1,5 @@
+-- `linkread::input::read_all` meets its contract: what was read lies at the start of the buffer.
+-- Assumes nothing.
 use mathlib.Core.Path.{_≡_, sym}
 use Prim.Native.Nat.{_-_, _≤_}
 use native.Mathlib.Omega.{arith}

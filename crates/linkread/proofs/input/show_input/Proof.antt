@@ -1,3 +1,5 @@
+-- `linkread::input::show_input` meets its contract: what was read is no more than the buffer holds.
+-- Assumes nothing.
 use borrow.Author.Needs.{needs}
 use native.Mathlib.Omega.{arith}
 use Rattle.linkread.proofs.input.show_input.Statement.{statement}

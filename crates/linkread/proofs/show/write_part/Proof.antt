@@ -1,3 +1,5 @@
+-- `linkread::show::write_part` meets its contract: the part lies within the text.
+-- Assumes nothing.
 use borrow.Author.Needs.{needs}
 use lib.Seq.{length-take-le}
 use mathlib.Core.Path.{sym}

@@ -1,0 +1,71 @@
+// A board as a person wants it, in a line, and the line of an image that is no link of it.
+ghost use mathlib.Core.Path.{_≡_};
+ghost use mathlib.Core.List.{_++_};
+ghost use Prim.Native.Nat.{_+_, _≤_};
+ghost use lib.ListN.{length};
+ghost use Rattle.printing.specs.Text.{Appended};
+ghost use Rattle.board_lines.specs.Board.{chipText, boostText, oscillatorText, boardLine, ruledOutLine};
+use numerals::put_byte;
+use printing::put;
+use sheets::Variant;
+
+// What is known of a board's oscillator.
+pub enum Oscillator {
+    Crystal,
+    Tcxo,
+    Either,
+}
+
+fn put_chip(variant: Variant, out: &mut [u8], at: usize) -> usize
+    requires { ⌜ at + 30 ≤ length (now out) ⌝ }
+    ensures { λ r. ⌜ Appended (chipText variant) at (now (out .entry)) r (now (out .exit)) ⌝ }
+    ensures { λ r. ⌜ r ≤ at + 30 ⌝ }
+{
+    match variant {
+        Variant::Sx1272 => put(b"board             SX1272", out, at),
+        Variant::Sx1276 => put(b"board             SX1276", out, at),
+    }
+}
+
+fn put_boost(boost: bool, out: &mut [u8], at: usize) -> usize
+    requires { ⌜ at + 10 ≤ length (now out) ⌝ }
+    ensures { λ r. ⌜ Appended (boostText boost) at (now (out .entry)) r (now (out .exit)) ⌝ }
+    ensures { λ r. ⌜ r ≤ at + 10 ⌝ }
+{
+    if boost { put(b", boost", out, at) } else { at }
+}
+
+fn put_oscillator(o: Oscillator, out: &mut [u8], at: usize) -> usize
+    requires { ⌜ at + 30 ≤ length (now out) ⌝ }
+    ensures { λ r. ⌜ Appended (oscillatorText o) at (now (out .entry)) r (now (out .exit)) ⌝ }
+    ensures { λ r. ⌜ r ≤ at + 30 ⌝ }
+{
+    match o {
+        Oscillator::Crystal => put(b"\n", out, at),
+        Oscillator::Tcxo => put(b", TCXO\n", out, at),
+        Oscillator::Either => put(b", with or without TCXO\n", out, at),
+    }
+}
+
+pub fn put_board(variant: Variant, boost: bool, o: Oscillator, out: &mut [u8], at: usize) -> usize
+    requires { ⌜ at + 70 ≤ length (now out) ⌝ }
+    ensures { λ r. ⌜ Appended (boardLine variant boost o) at (now (out .entry)) r (now (out .exit)) ⌝ }
+    ensures { λ r. ⌜ r ≤ at + 70 ⌝ }
+{
+    let at = put_chip(variant, out, at);
+    let at = put_boost(boost, out, at);
+    put_oscillator(o, out, at)
+}
+
+// The register that rules a link out, and what it holds.
+pub fn put_ruled_out(register: u8, value: u8, out: &mut [u8], at: usize) -> usize
+    requires { ⌜ at + 70 ≤ length (now out) ⌝ }
+    ensures { λ r. ⌜ Appended (ruledOutLine register value) at (now (out .entry)) r (now (out .exit)) ⌝ }
+    ensures { λ r. ⌜ r ≤ at + 70 ⌝ }
+{
+    let at = put(b"no link           27 NotALink: register 0x", out, at);
+    let at = put_byte(register, out, at);
+    let at = put(b" holds 0x", out, at);
+    let at = put_byte(value, out, at);
+    put(b"\n", out, at)
+}

@@ -1,0 +1,167 @@
+// A link as a person wants it: a line for each setting.
+ghost use mathlib.Core.Path.{_≡_};
+ghost use mathlib.Core.List.{_++_};
+ghost use Prim.Native.Nat.{_+_, _≤_, _<_, _^_};
+ghost use lib.ListN.{length};
+ghost use Rattle.sheets.specs.Frequency.{steps, frfMsb, frfMid, frfLsb};
+ghost use Rattle.reading.specs.Words.{ascii};
+ghost use Rattle.printing.specs.Text.{Appended};
+ghost use Rattle.numerals.specs.Numbers.{counted, megahertz, bytesText};
+ghost use Rattle.link_lines.specs.Lines.{syncLine, stepText, frequencyLine, bandwidthLine, modemLines, packetLines, powerLine, pinLine, linkLines};
+use numerals::hertz_of;
+use numerals::put_bytes;
+use numerals::put_choice;
+use numerals::put_counted;
+use numerals::put_kilohertz;
+use numerals::put_megahertz;
+use params::mod_params::Link;
+use printing::put;
+use printing::put_signed;
+use units::Hertz;
+
+fn put_step(hz: Hertz, out: &mut [u8], at: usize) -> usize
+    requires { ⌜ at + 70 ≤ length (now out) ⌝ }
+    ensures { λ r. ⌜ Appended (stepText (hz .0)) at (now (out .entry)) r (now (out .exit)) ⌝ }
+    ensures { λ r. ⌜ r ≤ at + 70 ⌝ }
+{
+    let count = hz.steps();
+    let at = put_counted(b" MHz (step ", count.0 as u64, b", registers ", out, at);
+    let at = put_bytes(count.frf_msb(), count.frf_mid(), count.frf_lsb(), out, at);
+    put(b")\n", out, at)
+}
+
+fn put_frequency(hz: Hertz, out: &mut [u8], at: usize) -> usize
+    requires { ⌜ at + 120 ≤ length (now out) ⌝ }
+    ensures { λ r. ⌜ Appended (frequencyLine (hz .0)) at (now (out .entry)) r (now (out .exit)) ⌝ }
+    ensures { λ r. ⌜ r ≤ at + 120 ⌝ }
+{
+    let at = put(b"frequency         ", out, at);
+    let at = put_megahertz(hz.0, out, at);
+    put_step(hz, out, at)
+}
+
+fn put_bandwidth(bw: u8, out: &mut [u8], at: usize) -> usize
+    requires { ⌜ at + 60 ≤ length (now out) ⌝ }
+    ensures { λ r. ⌜ Appended (bandwidthLine bw) at (now (out .entry)) r (now (out .exit)) ⌝ }
+    ensures { λ r. ⌜ r ≤ at + 60 ⌝ }
+{
+    let at = put(b"bandwidth         ", out, at);
+    let at = put_kilohertz(hertz_of(bw), out, at);
+    put(b" kHz\n", out, at)
+}
+
+fn put_modem(l: Link, out: &mut [u8], at: usize) -> usize
+    requires { ⌜ at + 180 ≤ length (now out) ⌝ }
+    ensures { λ r. ⌜ Appended (modemLines l) at (now (out .entry)) r (now (out .exit)) ⌝ }
+    ensures { λ r. ⌜ r ≤ at + 180 ⌝ }
+{
+    let at = put_counted(
+        b"spreading factor  ",
+        l.spreading_factor as u64,
+        b"\n",
+        out,
+        at,
+    );
+    let at = put_bandwidth(l.bandwidth, out, at);
+    put_counted(
+        b"coding rate       4/",
+        l.coding_rate as u64 + 4,
+        b"\n",
+        out,
+        at,
+    )
+}
+
+fn put_packet(l: Link, out: &mut [u8], at: usize) -> usize
+    requires { ⌜ at + 180 ≤ length (now out) ⌝ }
+    ensures { λ r. ⌜ Appended (packetLines l) at (now (out .entry)) r (now (out .exit)) ⌝ }
+    ensures { λ r. ⌜ r ≤ at + 180 ⌝ }
+{
+    let at = put_choice(
+        l.implicit_header,
+        b"header            implicit\n",
+        b"header            explicit\n",
+        out,
+        at,
+    );
+    let at = put_choice(
+        l.crc_on,
+        b"CRC               on\n",
+        b"CRC               off\n",
+        out,
+        at,
+    );
+    let at = put_choice(
+        l.iq_inverted,
+        b"IQ                inverted\n",
+        b"IQ                normal\n",
+        out,
+        at,
+    );
+    put_counted(
+        b"preamble          ",
+        l.preamble_length as u64,
+        b" symbols\n",
+        out,
+        at,
+    )
+}
+
+fn put_power(power: i32, out: &mut [u8], at: usize) -> usize
+    requires { ⌜ at + 50 ≤ length (now out) ⌝ }
+    ensures { λ r. ⌜ Appended (powerLine power) at (now (out .entry)) r (now (out .exit)) ⌝ }
+    ensures { λ r. ⌜ r ≤ at + 50 ⌝ }
+{
+    let at = put(b"power             ", out, at);
+    let at = put_signed(power, out, at);
+    put(b" dBm\n", out, at)
+}
+
+// Below 0 dBm the Rust sets PaSelect on a board without boost.
+fn put_pin(boost: bool, pa_config: u8, out: &mut [u8], at: usize) -> usize
+    requires { ⌜ at + 90 ≤ length (now out) ⌝ }
+    ensures { λ r. ⌜ Appended (pinLine boost «pa_config») at (now (out .entry)) r (now (out .exit)) ⌝ }
+    ensures { λ r. ⌜ r ≤ at + 90 ⌝ }
+{
+    if pa_config < 128 {
+        return put(b"output pin        RFO\n", out, at);
+    }
+    if boost {
+        return put(b"output pin        PA_BOOST\n", out, at);
+    }
+    put(
+        b"output pin        PA_BOOST by the register, though the board has no boost\n",
+        out,
+        at,
+    )
+}
+
+fn put_sync(l: Link, out: &mut [u8], at: usize) -> usize
+    requires { ⌜ at + 160 ≤ length (now out) ⌝ }
+    ensures { λ r. ⌜ Appended (syncLine l ++ frequencyLine (l .frequency .0)) at (now (out .entry)) r (now (out .exit)) ⌝ }
+    ensures { λ r. ⌜ r ≤ at + 160 ⌝ }
+{
+    let hz = l.frequency;
+    let at = put_choice(
+        l.public_network,
+        b"sync word         0x34 (public)\n",
+        b"sync word         0x12 (private)\n",
+        out,
+        at,
+    );
+    put_frequency(hz, out, at)
+}
+
+// A link that was read from an image with this RegPaConfig.
+pub fn put_link(boost: bool, pa_config: u8, l: Link, out: &mut [u8], at: usize) -> usize
+    requires { ⌜ at + 660 ≤ length (now out) ⌝ }
+    ensures { λ r. ⌜ Appended (linkLines boost «pa_config» l) at (now (out .entry)) r (now (out .exit)) ⌝ }
+    ensures { λ r. ⌜ r ≤ at + 660 ⌝ }
+{
+    let power = l.power;
+    let at = put_sync(l, out, at);
+    let at = put_modem(l, out, at);
+    let at = put_packet(l, out, at);
+    let at = put_power(power, out, at);
+    put_pin(boost, pa_config, out, at)
+}

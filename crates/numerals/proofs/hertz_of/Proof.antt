@@ -1,0 +1,15 @@
+-- `numerals::hertz_of` meets its contract: the test is where the table ends.
+-- Assumes nothing.
+use borrow.Author.Needs.{needs}
+use Rattle.reading.proofs.Tests.{past}
+use Rattle.sheets.specs.Modem.{bandwidths}
+use mathlib.Core.Path.{_≡_, refl, sym, ap, _∙_}
+use Rattle.numerals.proofs.hertz_of.Statement.{statement}
+use Rattle.numerals.proofs.hertz_of.Tie as tie
+
+returns-2 : tie.Need-returns-2
+unfolding bandwidths
+returns-2 c = sym (past bandwidths _ (c .if1 .left))
+
+pub hertz-of-spec : {M : Type 1} → statement M
+hertz-of-spec = tie.close (tie.spec (λ c κs. search needs) (λ c. search needs) returns-2)

@@ -1,0 +1,18 @@
+-- `numerals::put_counted` meets its contract: one text behind another.
+-- Assumes nothing.
+use borrow.Author.Needs.{needs}
+use Rattle.printing.proofs.Appending.{then, same}
+use native.Mathlib.Omega.{arith}
+use Rattle.numerals.proofs.put_counted.Statement.{statement}
+use Rattle.numerals.proofs.put_counted.Tie as tie
+
+returns : tie.Need-returns
+returns c =
+    let three = c .before .before in
+    let two = three .before .before .before .before in
+    let one = two .before .before .before .before in
+    (then (one .put .ensures) (then (two .put-decimal .ensures .0) (three .put2 .ensures)), omega arith)
+
+pub put-counted-spec : {M : Type 1} → statement M
+put-counted-spec =
+    tie.close (tie.spec (λ c κs. search needs) (λ c κs. search needs) (λ c κs. search needs) (λ c. search needs) returns)

@@ -1,0 +1,28 @@
+-- `numerals::put_megahertz` meets its contract: one text behind another.
+-- Assumes nothing.
+use borrow.Author.Needs.{needs}
+use Rattle.numerals.specs.Numbers.{megahertz}
+use Rattle.printing.proofs.Appending.{then, same}
+use native.Mathlib.Omega.{arith}
+use Rattle.numerals.proofs.put_megahertz.Statement.{statement}
+use Rattle.numerals.proofs.put_megahertz.Tie as tie
+
+returns : tie.Need-returns
+unfolding megahertz
+returns c =
+    let three = c .before .before in
+    let two = three .before .before .before .before in
+    let one = two .before .before .before .before .before in
+    (then (one .put-decimal .ensures .0) (then (two .put .ensures) (three .put-six-digits .ensures)), omega arith)
+
+pub put-megahertz-spec : {M : Type 1} → statement M
+put-megahertz-spec =
+    tie.close
+    (tie.spec
+    (λ c. search needs)
+    (λ c κs. search needs)
+    (λ c. search needs)
+    (λ c κs. search needs)
+    (λ c κs. search needs)
+    (λ c. search needs)
+    returns)

@@ -1,0 +1,17 @@
+-- `numerals::put_spaced` meets its contract: one text behind the other.
+-- Assumes nothing.
+use borrow.Author.Needs.{needs}
+use Rattle.printing.proofs.Appending.{then, same}
+use native.Mathlib.Omega.{arith}
+use Rattle.numerals.proofs.put_spaced.Statement.{statement}
+use Rattle.numerals.proofs.put_spaced.Tie as tie
+
+returns : tie.Need-returns
+returns c =
+    let two = c .before .before in
+    let one = two .before .before .before .before in
+    then (one .put .ensures) (two .put-byte .ensures)
+
+pub put-spaced-spec : {M : Type 1} → statement M
+put-spaced-spec =
+    tie.close (tie.spec (λ c. search needs) (λ c κs. search needs) (λ c κs. search needs) (λ c. search needs) returns)
