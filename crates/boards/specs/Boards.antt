@@ -1,13 +1,12 @@
 -- Boards by words: the variant, and what is added to it.
-use mathlib.Core.Bool.{Bool, true, false, cond}
-use mathlib.Core.List.{List}
-use Prim.Native.Nat.{ℕ}
+use mathlib.Core.Bool.{Bool, true, false}
 use Rattle.sheets.specs.declared.Variant.{Variant}
 use Rattle.sheets.specs.declared.Variant.the-variants.{Sx1272, Sx1276}
 use Rattle.registers.specs.declared.board.Board.{Board}
-use Rattle.reading.specs.Words.{ascii, alike}
+use Rattle.boards.specs.declared.words.Word.{Word}
+use Rattle.boards.specs.declared.words.Word.the-variants as word
 use Rattle.boards.specs.declared.Worded.{Worded}
-use Rattle.boards.specs.declared.Worded.the-variants as worded
+use Rattle.boards.specs.declared.Worded.the-variants as answer
 
 abbrev pub board : Variant → Bool → Bool → Bool → Board
 board v tcxo boost rx = record { variant = v; «tcxo_used» = tcxo; «tx_boost» = boost; «rx_boost» = rx }
@@ -15,11 +14,11 @@ board v tcxo boost rx = record { variant = v; «tcxo_used» = tcxo; «tx_boost»
 abbrev pub plain : Board
 plain = board Sx1276 false false false
 
--- the last of two words for a variant holds
-unfoldable pub wordedBoard : Board → List ℕ → Worded
-wordedBoard b w =
-    cond (alike w (ascii "1272")) (worded.Board (board Sx1272 (b .«tcxo_used») (b .«tx_boost») (b .«rx_boost»)))
-    (cond (alike w (ascii "1276")) (worded.Board (board Sx1276 (b .«tcxo_used») (b .«tx_boost») (b .«rx_boost»)))
-    (cond (alike w (ascii "tcxo")) (worded.Board (board (b .variant) true (b .«tx_boost») (b .«rx_boost»)))
-    (cond (alike w (ascii "boost")) (worded.Board (board (b .variant) (b .«tcxo_used») true (b .«rx_boost»)))
-    (cond (alike w (ascii "rxboost")) (worded.Board (board (b .variant) (b .«tcxo_used») (b .«tx_boost») true)) worded.Unknown))))
+-- what a word makes of a board: its own field is new, the others stay
+abbrev pub worded : Board → Word → Worded
+worded b word.Sx1272 = answer.Board (board Sx1272 (b .«tcxo_used») (b .«tx_boost») (b .«rx_boost»))
+worded b word.Sx1276 = answer.Board (board Sx1276 (b .«tcxo_used») (b .«tx_boost») (b .«rx_boost»))
+worded b word.Tcxo = answer.Board (board (b .variant) true (b .«tx_boost») (b .«rx_boost»))
+worded b word.Boost = answer.Board (board (b .variant) (b .«tcxo_used») true (b .«rx_boost»))
+worded b word.RxBoost = answer.Board (board (b .variant) (b .«tcxo_used») (b .«tx_boost») true)
+worded b word.Other = answer.Unknown

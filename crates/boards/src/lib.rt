@@ -1,9 +1,13 @@
 // Boards by words, as a command line says them: the plain board, and what each word makes of a board.
+mod words;
+
 ghost use mathlib.Core.Path.{_≡_};
-ghost use Rattle.boards.specs.Boards.{board, plain as plainBoard, wordedBoard};
-use reading::same;
+ghost use Rattle.boards.specs.Boards.{board, plain as plainBoard, worded};
+ghost use Rattle.boards.specs.Words.{wordOf};
 use registers::board::Board;
 use sheets::Variant;
+pub use words::Word;
+pub use words::board_word;
 
 pub enum Worded {
     Board(Board),
@@ -35,26 +39,16 @@ fn of_variant(b: Board, variant: Variant) -> Board
 
 // A word of the variant, or of what is added.
 pub fn with_word(old: Board, w: &[u8]) -> Worded
-    ensures { λ r. ⌜ r ≡ wordedBoard old (now (w .entry)) ⌝ }
+    ensures { λ r. ⌜ r ≡ worded old (wordOf (now (w .entry))) ⌝ }
 {
     let mut b = old;
-    if same(w, b"1272") {
-        return Worded::Board(of_variant(old, Variant::Sx1272));
+    match board_word(w) {
+        Word::Sx1272 => b = of_variant(old, Variant::Sx1272),
+        Word::Sx1276 => b = of_variant(old, Variant::Sx1276),
+        Word::Tcxo => b.tcxo_used = true,
+        Word::Boost => b.tx_boost = true,
+        Word::RxBoost => b.rx_boost = true,
+        Word::Other => return Worded::Unknown,
     }
-    if same(w, b"1276") {
-        return Worded::Board(of_variant(old, Variant::Sx1276));
-    }
-    if same(w, b"tcxo") {
-        b.tcxo_used = true;
-        return Worded::Board(b);
-    }
-    if same(w, b"boost") {
-        b.tx_boost = true;
-        return Worded::Board(b);
-    }
-    if same(w, b"rxboost") {
-        b.rx_boost = true;
-        return Worded::Board(b);
-    }
-    Worded::Unknown
+    Worded::Board(b)
 }

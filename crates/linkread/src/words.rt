@@ -1,9 +1,11 @@
 // What the command line asks: a board, a form, files.
-use board_words::Word;
-use board_words::board_word;
+use boards::Word;
+use boards::board_word;
+use libc::STDERR_FILENO;
 use reading::same;
 
-// The chip is 0 where no word names one. Wrong is a word that is none of these, a second chip, or what a board has without a chip.
+// The chip is 0 where no word names one. Wrong is an option that is none, a second chip, a word that is too long, or what a board
+// has without a chip; it is told where it is found.
 pub struct Asked {
     pub chip: u16,
     pub tcxo: bool,
@@ -31,11 +33,20 @@ pub fn is_file(word: &[u8]) -> bool {
     }
 }
 
-fn with_chip(asked: Asked, chip: u16) -> Asked {
+fn wrong(asked: Asked, what: &[u8], text: &[u8]) -> Asked {
+    io::write_all(STDERR_FILENO, b"linkread: ");
+    io::write_all(STDERR_FILENO, what);
+    io::write_all(STDERR_FILENO, text);
     let mut a = asked;
-    if a.chip != 0 {
-        a.wrong = true;
+    a.wrong = true;
+    a
+}
+
+fn with_chip(asked: Asked, chip: u16) -> Asked {
+    if asked.chip != 0 {
+        return wrong(asked, b"two chips", b" are named\n");
     }
+    let mut a = asked;
     a.chip = chip;
     a
 }
@@ -51,7 +62,7 @@ fn with_option(asked: Asked, word: &[u8]) -> Asked {
     } else if same(word, b"-h") {
         a.help = true;
     } else {
-        a.wrong = true;
+        return wrong(a, word, b" is no option\n");
     }
     a
 }
@@ -75,21 +86,23 @@ fn with_argument(asked: Asked, i: usize) -> Asked {
     if os::errno() == 0 {
         return with_word(asked, &word[..n]);
     }
-    let mut a = asked;
-    a.wrong = true;
-    a
+    wrong(asked, b"a word", b" has more than 4096 bytes\n")
 }
 
-fn settled(asked: Asked) -> Asked {
-    let mut a = asked;
+fn settled(a: Asked) -> Asked {
     if a.chip == 0 {
         if a.tcxo || a.boost || a.rx_boost {
-            a.wrong = true;
+            return wrong(
+                a,
+                b"tcxo, boost and rxboost",
+                b" are said of a chip: name 1272 or 1276\n",
+            );
         }
     }
     a
 }
 
+// The words are looked at in turn, up to one that is wrong or asks for help.
 pub fn all_words() -> Asked {
     let count = os::arg_count();
     let mut a = Asked {
@@ -106,6 +119,9 @@ pub fn all_words() -> Asked {
     let mut i = 1;
     while i < count {
         a = with_argument(a, i);
+        if a.help || a.wrong {
+            return a;
+        }
         i += 1;
     }
     settled(a)

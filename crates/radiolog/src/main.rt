@@ -3,15 +3,39 @@ mod acts;
 mod answers;
 mod lines;
 
+use boards::Word;
 use boards::Worded;
 use libc::STDERR_FILENO;
+use libc::STDOUT_FILENO;
+use reading::same;
+use registers::board::Board;
 
-fn say(text: &[u8]) {
-    io::write_all(STDERR_FILENO, text);
+// The board that the words so far make, and whether one of them named its chip.
+struct Said {
+    board: Board,
+    chip: bool,
 }
 
-fn usage() {
-    say(b"usage: radiolog [1272] [tcxo] [boost] [rxboost] <commands\n");
+enum Asked {
+    Commands(Said),
+    Help,
+    Wrong,
+}
+
+fn usage(fd: i32) {
+    io::write_all(
+        fd,
+        b"usage: radiolog [1272|1276] [tcxo] [boost] [rxboost] [-h] <commands\n",
+    );
+}
+
+fn say(text: &[u8]) {
+    io::write_all(STDOUT_FILENO, text);
+}
+
+fn help() {
+    usage(STDOUT_FILENO);
+    say(b"The words say the board; without 1272 or 1276 it is an SX1276.\n");
     say(
         b"A line of the input is a command: a word and its arguments, parted by tabs, numbers in decimal.\n\n",
     );
@@ -36,32 +60,72 @@ fn usage() {
     );
 }
 
-fn with_argument(board: registers::board::Board, i: usize) -> Worded {
-    let mut word = [0u8; 16];
-    let n = os::arg(i, &mut word);
-    if os::errno() != 0 {
-        return Worded::Unknown;
-    }
-    boards::with_word(board, &word[..n])
+fn wrong(what: &[u8], text: &[u8]) -> Asked {
+    io::write_all(STDERR_FILENO, b"radiolog: ");
+    io::write_all(STDERR_FILENO, what);
+    io::write_all(STDERR_FILENO, text);
+    Asked::Wrong
 }
 
-fn board_asked() -> Worded {
+fn names_chip(word: &[u8]) -> bool {
+    match boards::board_word(word) {
+        Word::Sx1272 => true,
+        Word::Sx1276 => true,
+        _ => false,
+    }
+}
+
+fn with_word(said: Said, word: &[u8]) -> Asked {
+    let chip = names_chip(word);
+    if chip && said.chip {
+        return wrong(b"two chips", b" are named\n");
+    }
+    let old = said.board;
+    match boards::with_word(old, word) {
+        Worded::Board(board) => Asked::Commands(Said {
+            board,
+            chip: chip || said.chip,
+        }),
+        Worded::Unknown => wrong(word, b" is no word of a board\n"),
+    }
+}
+
+fn with_argument(said: Said, i: usize) -> Asked {
+    let mut word = io::buffer();
+    let n = os::arg(i, &mut word);
+    if os::errno() != 0 {
+        return wrong(b"a word", b" has more than 4096 bytes\n");
+    }
+    if same(&word[..n], b"-h") {
+        return Asked::Help;
+    }
+    with_word(said, &word[..n])
+}
+
+// The words are looked at in turn, up to one that is wrong or asks for help.
+fn board_asked() -> Asked {
     let count = os::arg_count();
-    let mut board = boards::plain();
+    let board = boards::plain();
+    let mut said = Said { board, chip: false };
     let mut i = 1;
     while i < count {
-        match with_argument(board, i) {
-            Worded::Unknown => return Worded::Unknown,
-            Worded::Board(b) => board = b,
+        match with_argument(said, i) {
+            Asked::Commands(s) => said = s,
+            Asked::Help => return Asked::Help,
+            Asked::Wrong => return Asked::Wrong,
         }
         i += 1;
     }
-    Worded::Board(board)
+    Asked::Commands(said)
 }
 
 fn main() {
     match board_asked() {
-        Worded::Board(board) => lines::answer_input(board),
-        Worded::Unknown => usage(),
+        Asked::Commands(said) => {
+            let board = said.board;
+            lines::answer_input(board);
+        }
+        Asked::Help => help(),
+        Asked::Wrong => usage(STDERR_FILENO),
     }
 }

@@ -6,10 +6,10 @@ use Rattle.radiolog.proofs.board_asked.Statement.{statement}
 use Rattle.radiolog.proofs.board_asked.Tie as tie
 
 abbrev Inv-loop : tie.InvT-loop
-Inv-loop count board₀ i₀ board i = Unit {0}
+Inv-loop count said₀ i₀ said i = Unit {0}
 
 abbrev μ-loop : tie.MeasureT-loop
-μ-loop count board₀ i₀ board i = count - i
+μ-loop count said₀ i₀ said i = count - i
 
 pub board-asked-spec : {M : Type 1} → statement M
 board-asked-spec =
@@ -21,6 +21,8 @@ board-asked-spec =
     (λ c κs. search needs)
     (λ c. search needs)
     (λ c κs. search needs)
+    (λ c. search needs)
+    (λ c. search needs)
     (λ c. search needs)
     (λ c. search needs)
     (λ c. search needs)
