@@ -38,7 +38,7 @@ unfoldable pub fit : List ℕ → List ℕ → Bool
 fit [] s = alike s (ascii "-")
 fit (k ∷ ks) s = eqb (countOf 32 s) (length ks) && fitFrom s 0 (k ∷ ks)
 
--- argument i, 0 where there is none of the kind
+-- argument i of those that a byte parts, 0 where there is none of the kind
 abbrev pub numberOr0 : Number → ℕ
 numberOr0 (number.Is n) = n
 numberOr0 number.NotDigits = 0
@@ -49,8 +49,8 @@ signedOr0 (signed.Is z) = z
 signedOr0 signed.NotDigits = pos 0
 signedOr0 signed.Over = pos 0
 
-unfoldable pub argument : ℕ → List ℕ → ℕ → ℕ
-argument most s i = numberOr0 (numberOf most (fieldAt 32 i s))
+unfoldable pub argument : ℕ → ℕ → List ℕ → ℕ → ℕ
+argument most parting s i = numberOr0 (numberOf most (fieldAt parting i s))
 
-unfoldable pub signedArgument : List ℕ → ℕ → ℤ
-signedArgument s i = signedOr0 (signedOf (fieldAt 32 i s))
+unfoldable pub signedArgument : ℕ → List ℕ → ℕ → ℤ
+signedArgument parting s i = signedOr0 (signedOf (fieldAt parting i s))

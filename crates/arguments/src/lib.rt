@@ -116,45 +116,45 @@ pub fn arguments_fit(o: Operation, s: &[u8]) -> bool
     }
 }
 
-// Argument i, 0 where there is none.
-fn number(s: &[u8], i: usize, most: u64) -> u64
-    ensures { λ r. ⌜ (r ≡ argument most (now (s .entry)) i) × (r ≤ most) ⌝ }
+// Argument i of those that a byte parts, 0 where there is none.
+fn number(s: &[u8], parting: u8, i: usize, most: u64) -> u64
+    ensures { λ r. ⌜ (r ≡ argument most parting (now (s .entry)) i) × (r ≤ most) ⌝ }
 {
-    match read_number(field(s, b' ', i), most) {
+    match read_number(field(s, parting, i), most) {
         Number::Is(n) => n,
         Number::NotDigits => 0,
         Number::Over => 0,
     }
 }
 
-pub fn byte(s: &[u8], i: usize) -> u8
-    ensures { λ r. ⌜ r ≡ argument byteMost (now (s .entry)) i ⌝ }
+pub fn byte(s: &[u8], parting: u8, i: usize) -> u8
+    ensures { λ r. ⌜ r ≡ argument byteMost parting (now (s .entry)) i ⌝ }
 {
-    number(s, i, BYTE) as u8
+    number(s, parting, i, BYTE) as u8
 }
 
-pub fn word(s: &[u8], i: usize) -> u16
-    ensures { λ r. ⌜ r ≡ argument wordMost (now (s .entry)) i ⌝ }
+pub fn word(s: &[u8], parting: u8, i: usize) -> u16
+    ensures { λ r. ⌜ r ≡ argument wordMost parting (now (s .entry)) i ⌝ }
 {
-    number(s, i, WORD) as u16
+    number(s, parting, i, WORD) as u16
 }
 
-pub fn hertz(s: &[u8], i: usize) -> u32
-    ensures { λ r. ⌜ r ≡ argument hertzMost (now (s .entry)) i ⌝ }
+pub fn hertz(s: &[u8], parting: u8, i: usize) -> u32
+    ensures { λ r. ⌜ r ≡ argument hertzMost parting (now (s .entry)) i ⌝ }
 {
-    number(s, i, HERTZ) as u32
+    number(s, parting, i, HERTZ) as u32
 }
 
-pub fn count(s: &[u8], i: usize) -> usize
-    ensures { λ r. ⌜ r ≡ argument countMost (now (s .entry)) i ⌝ }
+pub fn count(s: &[u8], parting: u8, i: usize) -> usize
+    ensures { λ r. ⌜ r ≡ argument countMost parting (now (s .entry)) i ⌝ }
 {
-    number(s, i, COUNT) as usize
+    number(s, parting, i, COUNT) as usize
 }
 
-pub fn power(s: &[u8], i: usize) -> i32
-    ensures { λ r. ⌜ r ≡ signedArgument (now (s .entry)) i ⌝ }
+pub fn power(s: &[u8], parting: u8, i: usize) -> i32
+    ensures { λ r. ⌜ r ≡ signedArgument parting (now (s .entry)) i ⌝ }
 {
-    match read_signed(field(s, b' ', i)) {
+    match read_signed(field(s, parting, i)) {
         Signed::Is(n) => n,
         Signed::NotDigits => 0,
         Signed::Over => 0,

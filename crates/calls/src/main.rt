@@ -1,5 +1,6 @@
 // The whole driver as a filter: each line of standard input is a call, each line of standard output its outcome.
-mod acts;
+mod answers;
+mod call;
 mod lines;
 
 fn main() {

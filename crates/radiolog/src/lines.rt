@@ -1,6 +1,6 @@
 // Lines of standard input: each is answered in turn, over one image and one FIFO.
 ghost use Rattle.radiolog.specs.Within.{Within};
-use crate::acts::act;
+use crate::command::act;
 use bytes::scan::find;
 use libc::STDERR_FILENO;
 use libc::STDIN_FILENO;

@@ -1,6 +1,6 @@
 // Reads commands from standard input, one a line, does each in turn on one image of zeros, and prints what it sends to the radio.
-mod acts;
 mod answers;
+mod command;
 mod lines;
 
 use boards::Word;

@@ -1,4 +1,4 @@
--- `calls::acts::lend` is safe and ends: what was read has room.
+-- `calls::call::lend` is safe and ends: what was read has room.
 -- Assumes nothing.
 use borrow.Author.Needs.{needs}
 use mathlib.Core.Path.{_≡_, sym, _∙_}
@@ -7,8 +7,8 @@ use native.Mathlib.Omega.{arith}
 use lib.ListN.{length}
 use lib.Seq.{length-take-le}
 use Rattle.reading.proofs.Pairs.{roomy}
-use Rattle.calls.proofs.acts.lend.Statement.{statement}
-use Rattle.calls.proofs.acts.lend.Tie as tie
+use Rattle.calls.proofs.call.lend.Statement.{statement}
+use Rattle.calls.proofs.call.lend.Tie as tie
 
 returns : tie.Need-returns
 returns c =

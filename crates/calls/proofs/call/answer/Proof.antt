@@ -1,4 +1,4 @@
--- `calls::acts::answer` is safe and ends: what was written lies in out.
+-- `calls::call::answer` is safe and ends: what was written lies in out.
 -- Assumes nothing.
 use borrow.Author.Needs.{needs}
 use mathlib.Core.Path.{_≡_, sym}
@@ -6,8 +6,8 @@ use Prim.Native.Nat.{_≤_}
 use native.Mathlib.Omega.{arith}
 use lib.ListN.{length}
 use lib.Seq.{length-take-le}
-use Rattle.calls.proofs.acts.answer.Statement.{statement}
-use Rattle.calls.proofs.acts.answer.Tie as tie
+use Rattle.calls.proofs.call.answer.Statement.{statement}
+use Rattle.calls.proofs.call.answer.Tie as tie
 
 returns : tie.Need-returns
 returns c =

@@ -1,4 +1,4 @@
--- `calls::acts::run_over` is safe and ends: what was written lies in out.
+-- `calls::call::run_over` is safe and ends: what was written lies in out.
 -- Assumes nothing.
 use borrow.Author.Needs.{needs}
 use mathlib.Core.Path.{_≡_, sym}
@@ -6,8 +6,8 @@ use Prim.Native.Nat.{_≤_}
 use native.Mathlib.Omega.{arith}
 use lib.ListN.{length}
 use lib.Seq.{length-take-le}
-use Rattle.calls.proofs.acts.run_over.Statement.{statement}
-use Rattle.calls.proofs.acts.run_over.Tie as tie
+use Rattle.calls.proofs.call.run_over.Statement.{statement}
+use Rattle.calls.proofs.call.run_over.Tie as tie
 
 returns : tie.Need-returns
 returns c =

@@ -1,11 +1,11 @@
--- `radiolog::acts::send` is safe and ends: the bytes lie within their place.
+-- `radiolog::command::send` is safe and ends: the bytes lie within their place.
 -- Assumes nothing.
 use borrow.Author.Needs.{needs}
 use lib.Seq.{length-take-le}
 use native.Mathlib.Omega.{arith}
 use mathlib.Core.Path.{sym}
-use Rattle.radiolog.proofs.acts.send.Statement.{statement}
-use Rattle.radiolog.proofs.acts.send.Tie as tie
+use Rattle.radiolog.proofs.command.send.Statement.{statement}
+use Rattle.radiolog.proofs.command.send.Tie as tie
 
 slice-aggregate-set-payload : tie.Need-slice-aggregate-set-payload
 slice-aggregate-set-payload c = sym (length-take-le _ _ (search needs))

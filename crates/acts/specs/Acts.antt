@@ -1,0 +1,98 @@
+-- The call that an operation's name and arguments ask. Arguments stand in a text, in the operation's order, parted by a byte.
+use mathlib.Core.List.{List, []}
+use Prim.Native.Nat.{ℕ}
+use Rattle.sheets.specs.declared.Variant.{Variant}
+use Rattle.params.specs.declared.mod_params.ModulationParams.{ModulationParams}
+use Rattle.params.specs.declared.mod_params.PacketParams.{PacketParams}
+use Rattle.params.specs.declared.mod_params.Link.{Link}
+use Rattle.params.specs.Errors.{Told}
+use Rattle.registers.specs.declared.board.Board.{Board}
+use Rattle.admit.specs.Call.{Outcome, well}
+use Rattle.operations.specs.Setup.{initLora, setBases, setChannel}
+use Rattle.operations.specs.Modes.{reset, setStandby, setSleep, doTx, doCad, doRx, setCarrier}
+use Rattle.operations.specs.Power.{setPower}
+use Rattle.operations.specs.Modem.{createModulation, createPacket, setModulation, setPacket}
+use Rattle.operations.specs.Programming.{programLink}
+use Rattle.operations.specs.Interrupts.{setIrq}
+use Rattle.commands.specs.declared.Operation.{Operation}
+use Rattle.commands.specs.declared.Operation.the-variants.{InitLora, CreateModulationParams, CreatePacketParams, Reset, SetStandby, SetSleep, SetTxRxBufferBaseAddress, SetTxPowerAndRampTime, SetModulationParams, SetPacketParams, SetChannel, SetPayload, DoTx, DoRx, GetRxPayload, GetRxPacketStatus, DoCad, SetIrqParams, ProcessIrqEvent, SetTxContinuousWaveMode, Program, ReadLink}
+use Rattle.commands.specs.Operations.{byte, word, hertz, count}
+use Rattle.arguments.specs.Arguments.{argument, signedArgument}
+
+-- ---- the records that arguments say
+
+-- `set_modulation_params` does not look at a frequency: 0 stands for one
+abbrev pub modulation : ℕ → List ℕ → ModulationParams
+modulation parting s =
+    record {
+      «spreading_factor» = argument byte parting s 0;
+      bandwidth = argument byte parting s 1;
+      «coding_rate» = argument byte parting s 2;
+      «low_data_rate_optimize» = argument byte parting s 3;
+      frequency = record { 0 = 0 };
+    }
+
+abbrev pub packet : ℕ → List ℕ → PacketParams
+packet parting s =
+    record {
+      «preamble_length» = argument word parting s 0;
+      «implicit_header» = argument byte parting s 1;
+      «payload_length» = argument byte parting s 2;
+      «crc_on» = argument byte parting s 3;
+      «iq_inverted» = argument byte parting s 4;
+    }
+
+abbrev pub link : ℕ → List ℕ → Link
+link parting s =
+    record {
+      «public_network» = argument byte parting s 0;
+      «spreading_factor» = argument byte parting s 1;
+      bandwidth = argument byte parting s 2;
+      «coding_rate» = argument byte parting s 3;
+      frequency = record { 0 = argument hertz parting s 4 };
+      «preamble_length» = argument word parting s 5;
+      «implicit_header» = argument byte parting s 6;
+      «crc_on» = argument byte parting s 7;
+      «iq_inverted» = argument byte parting s 8;
+      power = signedArgument parting s 9;
+    }
+
+-- ---- the calls
+
+abbrev pub modulationCreated : Variant → ℕ → List ℕ → Told
+modulationCreated v parting s =
+    createModulation v (argument byte parting s 0) (argument byte parting s 1) (argument byte parting s 2) (argument hertz parting s 3)
+
+abbrev pub packetCreated : ℕ → List ℕ → Told
+packetCreated parting s =
+    createPacket (argument word parting s 0) (argument byte parting s 1) (argument byte parting s 2) (argument byte parting s 3)
+    (argument byte parting s 4) (argument byte parting s 5)
+
+-- a call that changes nothing
+abbrev pub idle : List ℕ → List ℕ → ℕ → Outcome
+idle im log used = record { tells = well; used = used; image = im; fifo = []; log = log; buffer = [] }
+
+-- of the operations that are lent an image and a log, and are done or refused; the others change nothing here
+unfoldable pub done : Operation → ℕ → List ℕ → Board → List ℕ → List ℕ → ℕ → Outcome
+done InitLora parting s board = initLora board (argument byte parting s 0)
+done CreateModulationParams parting s board = idle
+done CreatePacketParams parting s board = idle
+done Reset parting s board = reset
+done SetStandby parting s board = setStandby
+done SetSleep parting s board = setSleep
+done SetTxRxBufferBaseAddress parting s board = setBases (argument count parting s 0) (argument count parting s 1)
+done SetTxPowerAndRampTime parting s board = setPower board (signedArgument parting s 0) (argument byte parting s 1)
+done SetModulationParams parting s board = setModulation (board .variant) (modulation parting s)
+done SetPacketParams parting s board = setPacket (board .variant) (packet parting s)
+done SetChannel parting s board = setChannel (argument hertz parting s 0)
+done SetPayload parting s board = idle
+done DoTx parting s board = doTx
+done DoRx parting s board = doRx (board .«rx_boost») (argument byte parting s 0) (argument word parting s 1)
+done GetRxPayload parting s board = idle
+done GetRxPacketStatus parting s board = idle
+done DoCad parting s board = doCad (board .«rx_boost»)
+done SetIrqParams parting s board = setIrq (argument byte parting s 0) (argument byte parting s 1)
+done ProcessIrqEvent parting s board = idle
+done SetTxContinuousWaveMode parting s board = setCarrier (board .variant)
+done Program parting s board = programLink board (link parting s)
+done ReadLink parting s board = idle

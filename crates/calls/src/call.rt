@@ -1,0 +1,147 @@
+// A call that a line asks: it is done over what the line lends, and its outcome is put into a lent place.
+ghost use Prim.Native.Nat.{_≤_};
+ghost use lib.ListN.{length};
+ghost use Rattle.io.specs.Counts.{Counts};
+use crate::answers;
+use crate::answers::Told;
+use arguments::count;
+use commands::Named;
+use commands::Operation;
+use commands::operation_named;
+use reading::Bytes;
+use reading::Case;
+use reading::field;
+use registers::board::Board;
+use requests::Flaw;
+use sheets::Variant;
+
+const TAB: u8 = b'\t';
+
+// Parts the arguments.
+const SPACE: u8 = b' ';
+
+fn flag(line: &[u8], k: usize) -> bool {
+    reading::same(field(line, TAB, k), b"1")
+}
+
+fn board(line: &[u8]) -> Board {
+    let variant = if reading::same(field(line, TAB, 0), b"1272") {
+        Variant::Sx1272
+    } else {
+        Variant::Sx1276
+    };
+    Board {
+        variant,
+        tcxo_used: flag(line, 1),
+        tx_boost: flag(line, 2),
+        rx_boost: flag(line, 3),
+    }
+}
+
+// What is lent is handed on, and the answer told at the start of out.
+fn act(
+    o: Operation,
+    line: &[u8],
+    used: usize,
+    image: &mut [u8],
+    fifo: &mut [u8],
+    buffer: &mut [u8],
+    log: &mut [u8],
+    out: &mut [u8],
+) -> Told
+    requires { ⌜ 230 ≤ length (now out) ⌝ }
+    ensures { λ r. ⌜ r .at ≤ 230 ⌝ }
+{
+    let args = field(line, TAB, 5);
+    let b = board(line);
+    let v = b.variant;
+    match o {
+        Operation::CreateModulationParams => {
+            answers::modulation(acts::create_modulation(args, SPACE, v), used, out)
+        }
+        Operation::CreatePacketParams => {
+            answers::packet(acts::create_packet(args, SPACE), used, out)
+        }
+        Operation::ReadLink => answers::link(link::read_link(image, b), used, out),
+        Operation::SetPayload => {
+            answers::done(sx127x::set_payload(image, fifo, log, used, buffer), out)
+        }
+        Operation::GetRxPayload => {
+            answers::received(sx127x::get_rx_payload(image, fifo, log, used, buffer), out)
+        }
+        Operation::GetRxPacketStatus => {
+            answers::measured(sx127x::get_rx_packet_status(image, log, used, v), out)
+        }
+        Operation::ProcessIrqEvent => {
+            answers::event(acts::event(args, SPACE, image, log, used), out)
+        }
+        _ => answers::done(acts::done(o, args, SPACE, b, image, log, used), out),
+    }
+}
+
+// Puts the bytes of a field at the start of a lent place, and answers how many they are.
+fn lend(text: &[u8], place: &mut [u8]) -> usize
+    ensures { λ r. ⌜ Counts r (now (place .exit)) ⌝ }
+{
+    match reading::read_hex(text, Case::Lower, place) {
+        Bytes::Are(n) => n,
+        Bytes::NotHex => 0,
+        Bytes::Over => 0,
+    }
+}
+
+fn run_over(
+    o: Operation,
+    line: &[u8],
+    image: &mut [u8],
+    fifo: &mut [u8],
+    buffer: &mut [u8],
+    log: &mut [u8],
+    out: &mut [u8],
+) -> usize
+    requires { ⌜ (length (now image) ≤ 1024) × (length (now fifo) ≤ 1024) ⌝ }
+    requires { ⌜ (length (now buffer) ≤ 1024) × (length (now log) ≤ 1024) × (8452 ≤ length (now out)) ⌝ }
+    ensures { λ r. ⌜ Counts r (now (out .exit)) ⌝ }
+{
+    let used = count(field(line, TAB, 10), SPACE, 0);
+    let told = act(o, line, used, image, fifo, buffer, log, out);
+    outcomes::put_left(image, fifo, buffer, log, told.used, out, told.at)
+}
+
+// Does the call that a line asks and puts its outcome's line into out.
+fn run(o: Operation, line: &[u8], out: &mut [u8]) -> usize
+    requires { ⌜ 8452 ≤ length (now out) ⌝ }
+    ensures { λ r. ⌜ Counts r (now (out .exit)) ⌝ }
+{
+    let mut image = [0u8; 1024];
+    let mut fifo = [0u8; 1024];
+    let mut buffer = [0u8; 1024];
+    let mut log = [0u8; 1024];
+    let i = lend(field(line, TAB, 6), &mut image);
+    let f = lend(field(line, TAB, 7), &mut fifo);
+    let b = lend(field(line, TAB, 8), &mut buffer);
+    let l = lend(field(line, TAB, 9), &mut log);
+    run_over(
+        o,
+        line,
+        &mut image[..i],
+        &mut fifo[..f],
+        &mut buffer[..b],
+        &mut log[..l],
+        out,
+    )
+}
+
+// Puts the line that answers a line into out, which has room for the longest.
+pub fn answer(line: &[u8], out: &mut [u8]) -> usize
+    requires { ⌜ 8452 ≤ length (now out) ⌝ }
+    ensures { λ r. ⌜ Counts r (now (out .exit)) ⌝ }
+{
+    match requests::judged(line) {
+        Flaw::Wrong(f) => outcomes::put_fault(f, out, 0),
+        Flaw::Clear => match operation_named(field(line, TAB, 4)) {
+            Named::Known(o) => run(o, line, out),
+            Named::Unknown => 0,
+        },
+    }
+}
