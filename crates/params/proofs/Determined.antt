@@ -67,64 +67,35 @@ errorOf n vs =
     ∷ NotALink ∷ [])
     (n - 1) SPI
 
-error-back : (e : RadioError) → errorOf (numberOf e) (valuesOf e) ≡ e
-error-back SPI = refl
-error-back Reset = refl
-error-back RfSwitchRx = refl
-error-back RfSwitchTx = refl
-error-back Busy = refl
-error-back Irq = refl
-error-back DIO1 = refl
-error-back InvalidConfiguration = refl
-error-back InvalidRadioMode = refl
-error-back (OpError code) = refl
-error-back (InvalidBaseAddress tx rx) = refl
-error-back (PayloadSizeUnexpected length) = refl
-error-back (PayloadSizeMismatch length room) = refl
-error-back UnavailableSpreadingFactor = refl
-error-back UnavailableBandwidth = refl
-error-back InvalidBandwidthForFrequency = refl
-error-back InvalidSF6ExplicitHeaderRequest = refl
-error-back InvalidOutputPowerForFrequency = refl
-error-back TransmitTimeout = refl
-error-back ReceiveTimeout = refl
-error-back DutyCycleUnsupported = refl
-error-back RngUnsupported = refl
-error-back FrequencyOutOfRange = refl
-error-back LogFull = refl
-error-back CarrierUnsupported = refl
-error-back BadImage = refl
-error-back NotALink = refl
-
--- a refusal's number is not 0
-refused : (e : RadioError) → eqb (numberOf e) 0 ≡ false
-refused SPI = refl
-refused Reset = refl
-refused RfSwitchRx = refl
-refused RfSwitchTx = refl
-refused Busy = refl
-refused Irq = refl
-refused DIO1 = refl
-refused InvalidConfiguration = refl
-refused InvalidRadioMode = refl
-refused (OpError code) = refl
-refused (InvalidBaseAddress tx rx) = refl
-refused (PayloadSizeUnexpected length) = refl
-refused (PayloadSizeMismatch length room) = refl
-refused UnavailableSpreadingFactor = refl
-refused UnavailableBandwidth = refl
-refused InvalidBandwidthForFrequency = refl
-refused InvalidSF6ExplicitHeaderRequest = refl
-refused InvalidOutputPowerForFrequency = refl
-refused TransmitTimeout = refl
-refused ReceiveTimeout = refl
-refused DutyCycleUnsupported = refl
-refused RngUnsupported = refl
-refused FrequencyOutOfRange = refl
-refused LogFull = refl
-refused CarrierUnsupported = refl
-refused BadImage = refl
-refused NotALink = refl
+-- an error is had back from what it tells, and its number is not 0
+error-back : (e : RadioError) → (errorOf (numberOf e) (valuesOf e) ≡ e) × (eqb (numberOf e) 0 ≡ false)
+error-back SPI = (refl, refl)
+error-back Reset = (refl, refl)
+error-back RfSwitchRx = (refl, refl)
+error-back RfSwitchTx = (refl, refl)
+error-back Busy = (refl, refl)
+error-back Irq = (refl, refl)
+error-back DIO1 = (refl, refl)
+error-back InvalidConfiguration = (refl, refl)
+error-back InvalidRadioMode = (refl, refl)
+error-back (OpError code) = (refl, refl)
+error-back (InvalidBaseAddress tx rx) = (refl, refl)
+error-back (PayloadSizeUnexpected length) = (refl, refl)
+error-back (PayloadSizeMismatch length room) = (refl, refl)
+error-back UnavailableSpreadingFactor = (refl, refl)
+error-back UnavailableBandwidth = (refl, refl)
+error-back InvalidBandwidthForFrequency = (refl, refl)
+error-back InvalidSF6ExplicitHeaderRequest = (refl, refl)
+error-back InvalidOutputPowerForFrequency = (refl, refl)
+error-back TransmitTimeout = (refl, refl)
+error-back ReceiveTimeout = (refl, refl)
+error-back DutyCycleUnsupported = (refl, refl)
+error-back RngUnsupported = (refl, refl)
+error-back FrequencyOutOfRange = (refl, refl)
+error-back LogFull = (refl, refl)
+error-back CarrierUnsupported = (refl, refl)
+error-back BadImage = (refl, refl)
+error-back NotALink = (refl, refl)
 
 -- ---- answers
 
@@ -145,7 +116,7 @@ doneOf t u = split t (plain.Done u) (plain.Refused (error t) u)
 
 done-back : (a : Answer) → doneOf (tellsDone a) (usedDone a) ≡ a
 done-back (plain.Done u) = refl
-done-back (plain.Refused e u) = rw (refused e, error-back e)
+done-back (plain.Refused e u) = rw (error-back e .1, error-back e .0)
 
 pub answer-determined : (a b : Answer) → tellsDone a ≡ tellsDone b → usedDone a ≡ usedDone b → a ≡ b
 answer-determined = determined tellsDone usedDone doneOf done-back
@@ -155,7 +126,7 @@ payloadOf t u = split t (payload.Received (value 0 (t .values)) u) (payload.Refu
 
 payload-back : (a : PayloadAnswer) → payloadOf (tellsPayload a) (usedPayload a) ≡ a
 payload-back (payload.Received n u) = refl
-payload-back (payload.Refused e u) = rw (refused e, error-back e)
+payload-back (payload.Refused e u) = rw (error-back e .1, error-back e .0)
 
 pub payload-determined : (a b : PayloadAnswer) → tellsPayload a ≡ tellsPayload b → usedPayload a ≡ usedPayload b → a ≡ b
 payload-determined = determined tellsPayload usedPayload payloadOf payload-back
@@ -165,7 +136,7 @@ statusOf t u = split t (status.Measured (record { rssi = signed 0 (t .values); s
 
 status-back : (a : StatusAnswer) → statusOf (tellsStatus a) (usedStatus a) ≡ a
 status-back (status.Measured s u) = refl
-status-back (status.Refused e u) = rw (refused e, error-back e)
+status-back (status.Refused e u) = rw (error-back e .1, error-back e .0)
 
 pub status-determined : (a b : StatusAnswer) → tellsStatus a ≡ tellsStatus b → usedStatus a ≡ usedStatus b → a ≡ b
 status-determined = determined tellsStatus usedStatus statusOf status-back
@@ -188,14 +159,13 @@ irq-back (irq.PreambleReceived u) = refl
 irq-back (irq.Done u) = refl
 irq-back (irq.CadDone true u) = refl
 irq-back (irq.CadDone false u) = refl
-irq-back (irq.Refused e u) = rw (refused e, error-back e)
+irq-back (irq.Refused e u) = rw (error-back e .1, error-back e .0)
 
 pub irq-determined : (a b : IrqAnswer) → tellsIrq a ≡ tellsIrq b → usedIrq a ≡ usedIrq b → a ≡ b
 irq-determined = determined tellsIrq usedIrq irqOf irq-back
 
 -- ---- answers that tell no bytes used
 
--- these tell no bytes used
 abbrev none : {A : Type 0} → A → ℕ
 none a = 0
 
@@ -218,7 +188,7 @@ modulationOf t u =
 
 modulation-back : (a : ModulationAnswer) → modulationOf (tellsModulation a) (none a) ≡ a
 modulation-back (modulation.Created m) = refl
-modulation-back (modulation.Refused e) = rw (refused e, error-back e)
+modulation-back (modulation.Refused e) = rw (error-back e .1, error-back e .0)
 
 pub modulation-determined : (a b : ModulationAnswer) → tellsModulation a ≡ tellsModulation b → a ≡ b
 modulation-determined a b t = determined tellsModulation none modulationOf modulation-back a b t refl
@@ -239,7 +209,7 @@ packetOf t u =
 
 packet-back : (a : PacketAnswer) → packetOf (tellsPacket a) (none a) ≡ a
 packet-back (packet.Created p) = refl
-packet-back (packet.Refused e) = rw (refused e, error-back e)
+packet-back (packet.Refused e) = rw (error-back e .1, error-back e .0)
 
 pub packet-determined : (a b : PacketAnswer) → tellsPacket a ≡ tellsPacket b → a ≡ b
 packet-determined a b t = determined tellsPacket none packetOf packet-back a b t refl
@@ -265,7 +235,7 @@ linkOf t u =
 
 link-back : (a : LinkAnswer) → linkOf (tellsLink a) (none a) ≡ a
 link-back (link.Found l) = refl
-link-back (link.Refused e) = rw (refused e, error-back e)
+link-back (link.Refused e) = rw (error-back e .1, error-back e .0)
 
 pub link-determined : (a b : LinkAnswer) → tellsLink a ≡ tellsLink b → a ≡ b
 link-determined a b t = determined tellsLink none linkOf link-back a b t refl
