@@ -1,7 +1,7 @@
 -- Arguments: whether a text has an operation's, and what they are.
 use mathlib.Core.Bool.{Bool, true, false, cond, _&&_}
 use mathlib.Core.List.{List, [], _∷_}
-use Prim.Native.Nat.{ℕ, suc}
+use Prim.Native.Nat.{ℕ, suc, _+_}
 use lib.Dec.{eqb}
 use lib.IntN.{ℤ, pos}
 use lib.ListN.{length}
@@ -28,15 +28,16 @@ isSigned signed.Over = false
 unfoldable pub ofKind : ℕ → List ℕ → Bool
 ofKind most s = cond (eqb most power) (isSigned (signedOf s)) (isNumber (numberOf most s))
 
--- the arguments from number i on are of the kinds
-abbrev pub fitFrom : List ℕ → ℕ → List ℕ → Bool
-fitFrom s i [] = true
-fitFrom s i (k ∷ ks) = ofKind k (fieldAt 32 i s) && fitFrom s (suc i) ks
+-- the first argument from number i on that is not of its kind, or their count; argument 0 stands in field `first`, and a field
+-- that is missing is empty
+abbrev pub misfitFrom : ℕ → ℕ → List ℕ → ℕ → List ℕ → ℕ
+misfitFrom parting first s i [] = i
+misfitFrom parting first s i (k ∷ ks) = cond (ofKind k (fieldAt parting (i + first) s)) (misfitFrom parting first s (suc i) ks) i
 
--- parted by one space, as many as there are kinds; `-` for none
+-- parted by one space, as many as there are kinds and none a misfit; `-` for none
 unfoldable pub fit : List ℕ → List ℕ → Bool
 fit [] s = alike s (ascii "-")
-fit (k ∷ ks) s = eqb (countOf 32 s) (length ks) && fitFrom s 0 (k ∷ ks)
+fit (k ∷ ks) s = eqb (countOf 32 s) (length ks) && eqb (misfitFrom 32 0 s 0 (k ∷ ks)) (suc (length ks))
 
 -- argument i of those that a byte parts, 0 where there is none of the kind
 abbrev pub numberOr0 : Number → ℕ

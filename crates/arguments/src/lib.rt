@@ -1,28 +1,22 @@
 // Arguments: whether a text has an operation's, and what they are.
 ghost use mathlib.Core.Path.{_≡_};
-ghost use Prim.Native.Nat.{_≤_, _<_};
-ghost use mathlib.Core.List.{[]};
-ghost use lib.ListN.{length};
+ghost use Prim.Native.Nat.{_≤_};
 ghost use Rattle.reading.specs.Decimal.{numberOf, signedOf};
 ghost use Rattle.commands.specs.Operations.{kinds as kindsOf, byte as byteMost, word as wordMost, hertz as hertzMost, count as countMost};
-ghost use Rattle.arguments.specs.Arguments.{isNumber, isSigned, ofKind, fit as fitOf, argument, signedArgument};
+ghost use Rattle.arguments.specs.Arguments.{isNumber, isSigned, ofKind, misfitFrom, fit as fitOf, argument, signedArgument};
 use commands::Operation;
 use reading::Number;
 use reading::Signed;
 use reading::field;
 use reading::read_number;
 use reading::read_signed;
-
-// A kind of argument is told by its largest value, and the one with a sign by its own.
-const BYTE: u64 = 255;
-
-const WORD: u64 = 65535;
-
-const HERTZ: u64 = 4294967295;
-
-const COUNT: u64 = 18446744073709551615;
-
-const POWER: u64 = 2147483647;
+use signatures::BYTE;
+use signatures::COUNT;
+use signatures::HERTZ;
+use signatures::POWER;
+use signatures::WORD;
+use signatures::argument_count;
+use signatures::argument_most;
 
 pub fn is_number(s: &[u8], most: u64) -> bool
     ensures { λ r. ⌜ r ≡ isNumber (numberOf most (now (s .entry))) ⌝ }
@@ -54,66 +48,35 @@ pub fn of_kind(most: u64, s: &[u8]) -> bool
     }
 }
 
-// As many as there are kinds, at least one.
-fn fit(s: &[u8], kinds: &[u64]) -> bool
-    requires { ⌜ 0 < length (now kinds) ⌝ }
-    ensures { λ r. ⌜ r ≡ fitOf (now (kinds .entry)) (now (s .entry)) ⌝ }
+// The first argument that is not what it may be, or their count. They stand from field `first` on.
+pub fn misfit(o: Operation, s: &[u8], parting: u8, first: usize) -> usize
+    requires { ⌜ first ≤ 1 ⌝ }
+    ensures { λ r. ⌜ (r ≡ misfitFrom parting first (now (s .entry)) 0 (kindsOf o)) × (r ≤ 10) ⌝ }
 {
-    if reading::count(s, b' ') != kinds.len() - 1 {
-        return false;
-    }
+    let n = argument_count(o);
     let mut i = 0;
-    while i < kinds.len() {
-        if of_kind(kinds[i], field(s, b' ', i)) {
+    while i < n {
+        if of_kind(argument_most(o, i), field(s, parting, i + first)) {
             i += 1;
         } else {
-            return false;
+            return i;
         }
     }
-    true
+    i
 }
 
-fn none(s: &[u8]) -> bool
-    ensures { λ r. ⌜ r ≡ fitOf [] (now (s .entry)) ⌝ }
-{
-    reading::same(s, b"-")
-}
-
-fn fit_program(s: &[u8]) -> bool
-    ensures { λ r. ⌜ r ≡ fitOf (kindsOf Operation.Program) (now (s .entry)) ⌝ }
-{
-    let kinds = [BYTE, BYTE, BYTE, BYTE, HERTZ, WORD, BYTE, BYTE, BYTE, POWER];
-    fit(s, &kinds)
-}
-
-// The text has the operation's arguments.
+// The text has the operation's arguments, parted by spaces.
 pub fn arguments_fit(o: Operation, s: &[u8]) -> bool
     ensures { λ r. ⌜ r ≡ fitOf (kindsOf o) (now (s .entry)) ⌝ }
 {
-    match o {
-        Operation::InitLora => fit(s, &[BYTE]),
-        Operation::CreateModulationParams => fit(s, &[BYTE, BYTE, BYTE, HERTZ]),
-        Operation::CreatePacketParams => fit(s, &[WORD, BYTE, BYTE, BYTE, BYTE, BYTE]),
-        Operation::Reset => none(s),
-        Operation::SetStandby => none(s),
-        Operation::SetSleep => none(s),
-        Operation::SetTxRxBufferBaseAddress => fit(s, &[COUNT, COUNT]),
-        Operation::SetTxPowerAndRampTime => fit(s, &[POWER, BYTE]),
-        Operation::SetModulationParams => fit(s, &[BYTE, BYTE, BYTE, BYTE]),
-        Operation::SetPacketParams => fit(s, &[WORD, BYTE, BYTE, BYTE, BYTE]),
-        Operation::SetChannel => fit(s, &[HERTZ]),
-        Operation::SetPayload => none(s),
-        Operation::DoTx => none(s),
-        Operation::DoRx => fit(s, &[BYTE, WORD]),
-        Operation::GetRxPayload => none(s),
-        Operation::GetRxPacketStatus => none(s),
-        Operation::DoCad => none(s),
-        Operation::SetIrqParams => fit(s, &[BYTE, BYTE]),
-        Operation::ProcessIrqEvent => fit(s, &[BYTE, BYTE, BYTE]),
-        Operation::SetTxContinuousWaveMode => none(s),
-        Operation::Program => fit_program(s),
-        Operation::ReadLink => none(s),
+    let n = argument_count(o);
+    if n == 0 {
+        return reading::same(s, b"-");
     }
+    if reading::count(s, b' ') != n - 1 {
+        return false;
+    }
+    misfit(o, s, b' ', 0) == n
 }
 
 // Argument i of those that a byte parts, 0 where there is none.

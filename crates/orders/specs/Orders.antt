@@ -1,7 +1,7 @@
 -- What is a command, and what is wrong first with a line that is none. Fields are parted by tabs; the first is the command's word.
 use mathlib.Core.Bool.{Bool, cond, _&&_, _||_}
-use mathlib.Core.List.{List, [], _∷_}
-use Prim.Native.Nat.{ℕ, suc, _+_}
+use mathlib.Core.List.{List}
+use Prim.Native.Nat.{ℕ, _+_}
 use lib.Dec.{leb, ltb}
 use lib.ListN.{length, getD}
 use Rattle.reading.specs.declared.hex.Case.the-variants.{Lower, Upper}
@@ -12,7 +12,7 @@ use Rattle.commands.specs.declared.Operation.{Operation}
 use Rattle.commands.specs.declared.Named.{Named}
 use Rattle.commands.specs.declared.Named.the-variants.{Known, Unknown}
 use Rattle.commands.specs.Operations.{kinds}
-use Rattle.arguments.specs.Arguments.{ofKind}
+use Rattle.arguments.specs.Arguments.{misfitFrom}
 use Rattle.shorthand.specs.Shorthand.{commandOf}
 use Rattle.orders.specs.declared.judge.Expected.{Expected}
 use Rattle.orders.specs.declared.judge.Expected.the-variants.{Command, Number, Bytes, Nothing}
@@ -27,11 +27,6 @@ isBytes s =
 abbrev pub isSend : List ℕ → Bool
 isSend w = alike w (ascii "payload") || alike w (ascii "set_payload")
 
--- the first argument from number i on that is not of its kind, or their count; a field that is missing is empty
-abbrev pub misfitFrom : List ℕ → ℕ → List ℕ → ℕ
-misfitFrom line i [] = i
-misfitFrom line i (k ∷ ks) = cond (ofKind k (fieldAt 9 (suc i) line)) (misfitFrom line (suc i) ks) i
-
 -- behind n arguments nothing stands
 unfoldable pub surplusFlaw : ℕ → List ℕ → Flaw
 surplusFlaw n line = cond (leb (countOf 9 line) n) Clear (Wrong (n + 2) Nothing)
@@ -44,7 +39,7 @@ abbrev pub rightUpTo : Operation → List ℕ → ℕ → Flaw
 rightUpTo o line i = cond (ltb i (length (kinds o))) (Wrong (i + 2) (Number (getD (kinds o) i 0))) (surplusFlaw i line)
 
 unfoldable pub numbersFlaw : Operation → List ℕ → Flaw
-numbersFlaw o line = rightUpTo o line (misfitFrom line 0 (kinds o))
+numbersFlaw o line = rightUpTo o line (misfitFrom 9 1 line 0 (kinds o))
 
 abbrev pub commandFlaw : Named → List ℕ → Flaw
 commandFlaw Unknown line = Wrong 1 Command

@@ -1,11 +1,8 @@
 // Whether a line is a command: a word and its arguments, parted by tabs. Where it is none, the first field that is wrong, counted from 1, and what was expected there.
 ghost use mathlib.Core.Path.{_≡_};
 ghost use Prim.Native.Nat.{_≤_};
-ghost use Rattle.commands.specs.Operations.{kinds};
-ghost use Rattle.orders.specs.Orders.{isBytes, isSend, misfitFrom, surplusFlaw, bytesFlaw, numbersFlaw, flawOf};
-use crate::kinds::argument_count;
-use crate::kinds::argument_most;
-use arguments::of_kind;
+ghost use Rattle.orders.specs.Orders.{isBytes, isSend, surplusFlaw, bytesFlaw, numbersFlaw, flawOf};
+use arguments::misfit;
 use commands::Named;
 use commands::Operation;
 use reading::Case;
@@ -13,6 +10,8 @@ use reading::field;
 use reading::is_hex;
 use reading::same;
 use shorthand::command_named;
+use signatures::argument_count;
+use signatures::argument_most;
 
 const TAB: u8 = b'\t';
 
@@ -58,22 +57,6 @@ fn is_send(w: &[u8]) -> bool
     same(w, b"set_payload")
 }
 
-// The first argument that is not what it may be, or their count.
-fn misfit(o: Operation, line: &[u8]) -> usize
-    ensures { λ r. ⌜ (r ≡ misfitFrom (now (line .entry)) 0 (kinds o)) × (r ≤ 10) ⌝ }
-{
-    let n = argument_count(o);
-    let mut i = 0;
-    while i < n {
-        if of_kind(argument_most(o, i), field(line, TAB, i + 1)) {
-            i += 1;
-        } else {
-            return i;
-        }
-    }
-    i
-}
-
 // Nothing may stand behind n arguments.
 fn surplus_flaw(line: &[u8], n: usize) -> Flaw
     requires { ⌜ n ≤ 10 ⌝ }
@@ -99,7 +82,7 @@ fn bytes_flaw(line: &[u8]) -> Flaw
 fn numbers_flaw(o: Operation, line: &[u8]) -> Flaw
     ensures { λ r. ⌜ r ≡ numbersFlaw o (now (line .entry)) ⌝ }
 {
-    let i = misfit(o, line);
+    let i = misfit(o, line, TAB, 1);
     if i < argument_count(o) {
         Flaw::Wrong(i + 2, Expected::Number(argument_most(o, i)))
     } else {

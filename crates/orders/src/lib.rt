@@ -1,6 +1,5 @@
 // Commands as lines of text: whether a line is a command, and where it is none what is wrong with it, in words.
 mod judge;
-mod kinds;
 mod words;
 
 pub use judge::Expected;

@@ -5,9 +5,9 @@ ghost use lib.ListN.{length};
 ghost use Rattle.printing.specs.Text.{Appended};
 ghost use Rattle.orders.specs.Words.{rangeText, expectedText, placeText, wrongText};
 use crate::judge::Expected;
-use crate::kinds::POWER;
 use printing::put;
 use printing::put_decimal;
+use signatures::POWER;
 
 fn put_range(most: u64, out: &mut [u8], at: usize) -> usize
     requires { ⌜ at + 60 ≤ length (now out) ⌝ }

@@ -9,7 +9,8 @@ use Rattle.reading.specs.Fields.{fieldAt}
 use Rattle.commands.specs.declared.Operation.{Operation}
 use Rattle.commands.specs.declared.Operation.the-variants.{InitLora, CreateModulationParams, CreatePacketParams, Reset, SetStandby, SetSleep, SetTxRxBufferBaseAddress, SetTxPowerAndRampTime, SetModulationParams, SetPacketParams, SetChannel, SetPayload, DoTx, DoRx, GetRxPayload, GetRxPacketStatus, DoCad, SetIrqParams, ProcessIrqEvent, SetTxContinuousWaveMode, Program, ReadLink}
 use Rattle.commands.specs.Operations.{arguments}
-use Rattle.outcomes.specs.Faults.{row, table}
+use Rattle.signatures.specs.Rows.{row}
+use Rattle.outcomes.specs.Faults.{table}
 
 pub at-row : (o : Operation) → fieldAt 9 (row o) table ≡ arguments o
 unfolding indexOf indexAfter

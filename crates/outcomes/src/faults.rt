@@ -6,42 +6,13 @@ ghost use lib.ListN.{length};
 ghost use Rattle.reading.specs.Words.{ascii};
 ghost use Rattle.printing.specs.Text.{Appended};
 ghost use Rattle.printing.specs.Numbers.{decimal};
-ghost use Rattle.outcomes.specs.Faults.{row, wanted, words};
+ghost use Rattle.outcomes.specs.Faults.{wanted, words};
 use commands::Operation;
 use printing::put;
 use printing::put_decimal;
 use reading::field;
 use requests::Fault;
-
-// An operation's row in the table of arguments.
-pub fn row_of(o: Operation) -> usize
-    ensures { λ r. ⌜ r ≡ row o ⌝ }
-{
-    match o {
-        Operation::InitLora => 1,
-        Operation::CreateModulationParams => 2,
-        Operation::CreatePacketParams => 3,
-        Operation::Reset => 0,
-        Operation::SetStandby => 0,
-        Operation::SetSleep => 0,
-        Operation::SetTxRxBufferBaseAddress => 4,
-        Operation::SetTxPowerAndRampTime => 5,
-        Operation::SetModulationParams => 6,
-        Operation::SetPacketParams => 7,
-        Operation::SetChannel => 8,
-        Operation::SetPayload => 0,
-        Operation::DoTx => 0,
-        Operation::DoRx => 9,
-        Operation::GetRxPayload => 0,
-        Operation::GetRxPacketStatus => 0,
-        Operation::DoCad => 0,
-        Operation::SetIrqParams => 10,
-        Operation::ProcessIrqEvent => 11,
-        Operation::SetTxContinuousWaveMode => 0,
-        Operation::Program => 12,
-        Operation::ReadLink => 0,
-    }
-}
+use signatures::row_of;
 
 fn put_wanted(o: Operation, out: &mut [u8], at: usize) -> usize
     requires { ⌜ at + 300 ≤ length (now out) ⌝ }

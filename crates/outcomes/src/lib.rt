@@ -3,5 +3,4 @@ mod faults;
 mod lent;
 
 pub use faults::put_fault;
-pub use faults::row_of;
 pub use lent::put_left;

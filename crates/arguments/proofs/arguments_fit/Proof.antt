@@ -1,153 +1,45 @@
--- `arguments::arguments_fit` meets its contract: each arm is the definition's row.
+-- `arguments::arguments_fit` meets its contract: with no kinds a dash is asked, else as many arguments as kinds and no misfit.
 -- Assumes nothing.
 use borrow.Author.Needs.{needs}
+use denote.Ref.{now}
+use native.Mathlib.Omega.{arith}
+use borrow.Author.Tests.{eq-eqb, ne-eqb}
+use Rattle.commands.specs.Operations.{kinds}
+use Rattle.arguments.proofs.Fits.{none, some}
 use Rattle.arguments.proofs.arguments_fit.Statement.{statement}
 use Rattle.arguments.proofs.arguments_fit.Tie as tie
 
 returns : tie.Need-returns
-returns c = rw (c .before .before .enum-told .given .1) (c .fit .ensures)
+returns c =
+    let t = c .before .before in
+    let n = t .before in
+    let a = n .before .before .args in
+    rw (none (kinds (a .o)) (now (a .s)) (omega (arith, n .argument-count .ensures .0, t .if1 .taken))) (c .same .ensures)
 
 returns-2 : tie.Need-returns-2
-returns-2 c = rw (c .before .before .enum-told2 .given .1) (c .fit2 .ensures)
+returns-2 c =
+    let k = c .before in
+    let n = k .before .before in
+    let a = n .before .before .args in
+    rw (some (kinds (a .o)) (now (a .s)) (omega (arith, n .argument-count .ensures .0, k .before .if1 .left)), ← n .argument-count .ensures .0, ← k .count .ensures, ne-eqb _ _ (c .if2 .taken))
 
 returns-3 : tie.Need-returns-3
-returns-3 c = rw (c .before .before .enum-told3 .given .1) (c .fit3 .ensures)
-
-returns-4 : tie.Need-returns-4
-returns-4 c = rw (c .before .enum-told4 .given .1) (c .none .ensures)
-
-returns-5 : tie.Need-returns-5
-returns-5 c = rw (c .before .enum-told5 .given .1) (c .none2 .ensures)
-
-returns-6 : tie.Need-returns-6
-returns-6 c = rw (c .before .enum-told6 .given .1) (c .none3 .ensures)
-
-returns-7 : tie.Need-returns-7
-returns-7 c = rw (c .before .before .enum-told7 .given .1) (c .fit4 .ensures)
-
-returns-8 : tie.Need-returns-8
-returns-8 c = rw (c .before .before .enum-told8 .given .1) (c .fit5 .ensures)
-
-returns-9 : tie.Need-returns-9
-returns-9 c = rw (c .before .before .enum-told9 .given .1) (c .fit6 .ensures)
-
-returns-10 : tie.Need-returns-10
-returns-10 c = rw (c .before .before .enum-told10 .given .1) (c .fit7 .ensures)
-
-returns-11 : tie.Need-returns-11
-returns-11 c = rw (c .before .before .enum-told11 .given .1) (c .fit8 .ensures)
-
-returns-12 : tie.Need-returns-12
-returns-12 c = rw (c .before .enum-told12 .given .1) (c .none4 .ensures)
-
-returns-13 : tie.Need-returns-13
-returns-13 c = rw (c .before .enum-told13 .given .1) (c .none5 .ensures)
-
-returns-14 : tie.Need-returns-14
-returns-14 c = rw (c .before .before .enum-told14 .given .1) (c .fit9 .ensures)
-
-returns-15 : tie.Need-returns-15
-returns-15 c = rw (c .before .enum-told15 .given .1) (c .none6 .ensures)
-
-returns-16 : tie.Need-returns-16
-returns-16 c = rw (c .before .enum-told16 .given .1) (c .none7 .ensures)
-
-returns-17 : tie.Need-returns-17
-returns-17 c = rw (c .before .enum-told17 .given .1) (c .none8 .ensures)
-
-returns-18 : tie.Need-returns-18
-returns-18 c = rw (c .before .before .enum-told18 .given .1) (c .fit10 .ensures)
-
-returns-19 : tie.Need-returns-19
-returns-19 c = rw (c .before .before .enum-told19 .given .1) (c .fit11 .ensures)
-
-returns-20 : tie.Need-returns-20
-returns-20 c = rw (c .before .enum-told20 .given .1) (c .none9 .ensures)
-
-returns-21 : tie.Need-returns-21
-returns-21 c = rw (c .before .enum-told21 .given .1) (c .fit-program .ensures)
-
-returns-22 : tie.Need-returns-22
-returns-22 c = rw (c .before .enum-told22 .given .1) (c .none10 .ensures)
+returns-3 c =
+    let k = c .before .before in
+    let n = k .before .before in
+    let a = n .before .before .args in
+    rw (some (kinds (a .o)) (now (a .s)) (omega (arith, n .argument-count .ensures .0, k .before .if1 .left)), ← n .argument-count .ensures .0, ← k .count .ensures, eq-eqb _ _ (c .before .if2 .left), ← c .misfit .ensures .0)
 
 pub arguments-fit-spec : {M : Type 1} → statement M
 arguments-fit-spec =
     tie.close
     (tie.spec
-    (λ c. search needs)
-    (λ c. search needs)
-    (λ c κs. search needs)
-    (λ c. search needs)
-    (λ c. search needs)
-    (λ c κs. search needs)
-    (λ c. search needs)
-    (λ c. search needs)
-    (λ c κs. search needs)
-    (λ c. search needs)
-    (λ c κs. search needs)
-    (λ c. search needs)
-    (λ c κs. search needs)
-    (λ c. search needs)
-    (λ c κs. search needs)
-    (λ c. search needs)
-    (λ c. search needs)
-    (λ c κs. search needs)
-    (λ c. search needs)
-    (λ c. search needs)
-    (λ c κs. search needs)
-    (λ c. search needs)
-    (λ c. search needs)
-    (λ c κs. search needs)
-    (λ c. search needs)
-    (λ c. search needs)
-    (λ c κs. search needs)
-    (λ c. search needs)
-    (λ c. search needs)
-    (λ c κs. search needs)
-    (λ c. search needs)
-    (λ c κs. search needs)
-    (λ c. search needs)
-    (λ c κs. search needs)
-    (λ c. search needs)
-    (λ c. search needs)
-    (λ c κs. search needs)
-    (λ c. search needs)
-    (λ c κs. search needs)
-    (λ c. search needs)
-    (λ c κs. search needs)
-    (λ c. search needs)
-    (λ c κs. search needs)
-    (λ c. search needs)
-    (λ c. search needs)
-    (λ c κs. search needs)
-    (λ c. search needs)
-    (λ c. search needs)
-    (λ c κs. search needs)
-    (λ c. search needs)
-    (λ c κs. search needs)
-    (λ c. search needs)
     (λ c κs. search needs)
     (λ c. search needs)
     (λ c κs. search needs)
     returns
+    (λ c κs. search needs)
+    (λ c. search needs)
     returns-2
-    returns-3
-    returns-4
-    returns-5
-    returns-6
-    returns-7
-    returns-8
-    returns-9
-    returns-10
-    returns-11
-    returns-12
-    returns-13
-    returns-14
-    returns-15
-    returns-16
-    returns-17
-    returns-18
-    returns-19
-    returns-20
-    returns-21
-    returns-22)
+    (λ c κs. search needs)
+    returns-3)

@@ -1,10 +1,10 @@
--- `orders::kinds::argument_most` meets its contract: the table has the largest value at the row and the place.
+-- `signatures::argument_most` meets its contract: the table has the largest value at the row and the place.
 -- Assumes nothing.
 use borrow.Author.Needs.{needs}
-use Rattle.orders.proofs.Rows.{rows, at-place}
+use Rattle.signatures.proofs.Rows.{rows, at-place}
 use native.Mathlib.Omega.{arith}
-use Rattle.orders.proofs.kinds.argument_most.Statement.{statement}
-use Rattle.orders.proofs.kinds.argument_most.Tie as tie
+use Rattle.signatures.proofs.argument_most.Statement.{statement}
+use Rattle.signatures.proofs.argument_most.Tie as tie
 
 mul-kinds : tie.Need-mul-kinds
 mul-kinds c = let w = rows (c .before .args .o) .within in omega (arith, c .row-of .ensures)

@@ -10,7 +10,7 @@ use Rattle.sheets.proofs.Sweep.{every, equal}
 use Rattle.commands.specs.declared.Operation.{Operation}
 use Rattle.commands.specs.declared.Operation.the-variants.{InitLora, CreateModulationParams, CreatePacketParams, Reset, SetStandby, SetSleep, SetTxRxBufferBaseAddress, SetTxPowerAndRampTime, SetModulationParams, SetPacketParams, SetChannel, SetPayload, DoTx, DoRx, GetRxPayload, GetRxPacketStatus, DoCad, SetIrqParams, ProcessIrqEvent, SetTxContinuousWaveMode, Program, ReadLink}
 use Rattle.commands.specs.Operations.{kinds}
-use Rattle.outcomes.specs.Faults.{row}
+use Rattle.signatures.specs.Rows.{row}
 
 abbrev counts : List ℕ
 counts = 0 ∷ 1 ∷ 4 ∷ 6 ∷ 2 ∷ 2 ∷ 4 ∷ 5 ∷ 1 ∷ 2 ∷ 2 ∷ 3 ∷ 10 ∷ []

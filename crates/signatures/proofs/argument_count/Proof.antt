@@ -1,11 +1,11 @@
--- `orders::kinds::argument_count` meets its contract: the table has the count at the row.
+-- `signatures::argument_count` meets its contract: the table has the count at the row.
 -- Assumes nothing.
 use borrow.Author.Needs.{needs}
-use Rattle.orders.proofs.Rows.{rows}
+use Rattle.signatures.proofs.Rows.{rows}
 use native.Mathlib.Omega.{arith}
 use mathlib.Core.Path.{_≡_, _∙_}
-use Rattle.orders.proofs.kinds.argument_count.Statement.{statement}
-use Rattle.orders.proofs.kinds.argument_count.Tie as tie
+use Rattle.signatures.proofs.argument_count.Statement.{statement}
+use Rattle.signatures.proofs.argument_count.Tie as tie
 
 mul-result : tie.Need-mul-result
 mul-result c = let w = rows (c .before .args .o) .within in omega (arith, c .row-of .ensures)

@@ -1,8 +1,8 @@
--- `outcomes::faults::row_of` meets its contract: each arm is the definition's row.
+-- `signatures::row_of` meets its contract: each arm is the definition's row.
 -- Assumes nothing.
 use borrow.Author.Needs.{needs}
-use Rattle.outcomes.proofs.faults.row_of.Statement.{statement}
-use Rattle.outcomes.proofs.faults.row_of.Tie as tie
+use Rattle.signatures.proofs.row_of.Statement.{statement}
+use Rattle.signatures.proofs.row_of.Tie as tie
 
 returns : tie.Need-returns
 returns c = rw (c .enum-told .given .1)

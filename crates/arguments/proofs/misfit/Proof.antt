@@ -1,43 +1,42 @@
--- `orders::judge::misfit` meets its contract: the first misfit of what is left is that of the whole.
+-- `arguments::misfit` meets its contract: the first misfit of what is left is that of the whole.
 -- Assumes nothing.
 use borrow.Author.Needs.{needs}
 use Prim.Native.Nat.{_+_}
-use Rattle.arguments.specs.Arguments.{ofKind}
+use Rattle.arguments.specs.Arguments.{ofKind, misfitFrom}
 use Rattle.reading.specs.Fields.{fieldAt}
 use lib.ListN.{getD}
 use mathlib.Core.Bool.{true, false}
-use Rattle.orders.proofs.Misfits.{fits, misfits}
-use Rattle.orders.specs.Orders.{misfitFrom}
+use Rattle.arguments.proofs.Fits.{fits, misfits}
 use Rattle.commands.specs.Operations.{kinds}
 use lib.ListN.{length, drop, drop-of-length-le}
 use denote.Ref.{now}
 use native.Mathlib.Omega.{arith}
 use Prim.Native.Nat.{_-_, _≤_}
 use mathlib.Core.Path.{_≡_, sym, _∙_}
-use Rattle.orders.proofs.judge.misfit.Statement.{statement}
-use Rattle.orders.proofs.judge.misfit.Tie as tie
+use Rattle.arguments.proofs.misfit.Statement.{statement}
+use Rattle.arguments.proofs.misfit.Tie as tie
 
 abbrev Inv-loop : tie.InvT-loop
-Inv-loop o line n i₀ i = (i ≤ n) × (n ≤ 10) × (misfitFrom line i (drop i (kinds o)) ≡ misfitFrom line 0 (kinds o))
+Inv-loop o s parting first n i₀ i = (i ≤ n) × (n ≤ 10) × (misfitFrom parting first s i (drop i (kinds o)) ≡ misfitFrom parting first s 0 (kinds o))
 
 abbrev μ-loop : tie.MeasureT-loop
-μ-loop o line n i₀ i = n - i
+μ-loop o s parting first n i₀ i = n - i
 
 loop-again : tie.Need-loop-again Inv-loop μ-loop
 loop-again c =
     let k = c .before in
     let l = k .before .before .before .before .loop in
     let a = k .before .before .before .before .before .before .before .args in
-    let e : ofKind (getD (kinds (a .o)) (l .i) 0) (fieldAt 9 (l .i + 1) (now (a .line))) ≡ true = rw (← k .before .before .argument-most .ensures, ← k .before .field .ensures) (sym (k .of-kind .ensures) ∙ c .if1 .taken) in
-    (omega arith, omega arith, sym (fits (kinds (a .o)) (now (a .line)) (l .i) (omega arith) e) ∙ l .inv .2)
+    let e : ofKind (getD (kinds (a .o)) (l .i) 0) (fieldAt (a .parting) (l .i + a .first) (now (a .s))) ≡ true = rw (← k .before .before .argument-most .ensures, ← k .before .field .ensures) (sym (k .of-kind .ensures) ∙ c .if1 .taken) in
+    (omega arith, omega arith, sym (fits (a .parting) (a .first) (kinds (a .o)) (now (a .s)) (l .i) (omega arith) e) ∙ l .inv .2)
 
 returns : tie.Need-returns Inv-loop μ-loop
 returns c =
     let k = c .before in
     let l = k .before .before .before .before .loop in
     let a = k .before .before .before .before .before .before .before .args in
-    let e : ofKind (getD (kinds (a .o)) (l .i) 0) (fieldAt 9 (l .i + 1) (now (a .line))) ≡ false = rw (← k .before .before .argument-most .ensures, ← k .before .field .ensures) (sym (k .of-kind .ensures) ∙ c .if1 .left) in
-    (sym (misfits (kinds (a .o)) (now (a .line)) (l .i) (omega arith) e) ∙ l .inv .2, omega arith)
+    let e : ofKind (getD (kinds (a .o)) (l .i) 0) (fieldAt (a .parting) (l .i + a .first) (now (a .s))) ≡ false = rw (← k .before .before .argument-most .ensures, ← k .before .field .ensures) (sym (k .of-kind .ensures) ∙ c .if1 .left) in
+    (sym (misfits (a .parting) (a .first) (kinds (a .o)) (now (a .s)) (l .i) (omega arith) e) ∙ l .inv .2, omega arith)
 
 returns-2 : tie.Need-returns-2 Inv-loop μ-loop
 returns-2 c =
