@@ -1,4 +1,4 @@
-// Interrupts set up: which are let through in a mode, and which pins tell them.
+// Interrupts set up, by `set_irq_params`: which are let through in a mode, and which pins tell them.
 ghost use mathlib.Core.Path.{_≡_};
 ghost use mathlib.Core.List.{[]};
 ghost use Prim.Native.Nat.{_+_, _≤_};

@@ -1,4 +1,4 @@
--- Links: which of them a board accepts, and when two are one.
+-- Links: which of them a board accepts, and the one that stands for all that leave the same image.
 use mathlib.Core.Bool.{Bool, true, false, _&&_}
 use Prim.Native.Nat.{ℕ}
 use lib.Dec.{T, ltb}

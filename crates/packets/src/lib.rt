@@ -1,4 +1,4 @@
-// Packets: a payload to send, and a packet that was received.
+// A packet that was received: `get_rx_payload`.
 ghost use mathlib.Core.Path.{_≡_};
 ghost use Prim.Native.Nat.{_+_, _≤_};
 ghost use lib.ListN.{length};

@@ -1,4 +1,4 @@
-// Transmit power and the time in which the amplifier comes up.
+// Transmit power, and the time in which the amplifier comes up: `set_tx_power_and_ramp_time`.
 ghost use mathlib.Core.Path.{_≡_};
 ghost use mathlib.Core.List.{[]};
 ghost use Prim.Native.Nat.{_+_, _*_, _≤_, _<_};

@@ -1,4 +1,4 @@
-// Listening: `do_rx` and `do_cad`.
+// Listening for a packet: `do_rx`.
 ghost use mathlib.Core.Path.{_≡_};
 ghost use mathlib.Core.List.{[]};
 ghost use Prim.Native.Nat.{_+_, _≤_};

@@ -1,4 +1,4 @@
-// Setting up: `init_lora` and the FIFO's base addresses.
+// Setting up: `init_lora`.
 ghost use mathlib.Core.Path.{_≡_};
 ghost use mathlib.Core.List.{[]};
 ghost use Prim.Native.Nat.{_+_, _*_, _≤_, _<_};
