@@ -10,13 +10,13 @@ use sheets::Variant;
 fn link_named(link: Link) -> Verdict
     ensures { λ r. ⌜ r ≡ linkNamed link ⌝ }
 {
-    let modulation = parameters::modulation_named(
+    let modulation = judgements::modulation_named(
         link.spreading_factor,
         link.bandwidth,
         link.coding_rate,
     );
-    let packet = parameters::packet_named(link.implicit_header, link.crc_on, link.iq_inverted);
-    refusals::flag(link.public_network).or(modulation.or(packet))
+    let packet = judgements::packet_named(link.implicit_header, link.crc_on, link.iq_inverted);
+    codes::flag(link.public_network).or(modulation.or(packet))
 }
 
 // 14, 15, 16, 17, 23.
@@ -27,7 +27,7 @@ fn link_had(variant: Variant, link: Link) -> Verdict
     let header = refusals::header_for_spreading_factor(link.spreading_factor, link.implicit_header);
     let range = refusals::frequency_range(frequency);
     let band = refusals::bandwidth_for_frequency(link.bandwidth, frequency);
-    let had = parameters::modulation_had(variant, link.spreading_factor, link.bandwidth);
+    let had = judgements::modulation_had(variant, link.spreading_factor, link.bandwidth);
     had.or(band.or(header.or(range)))
 }
 

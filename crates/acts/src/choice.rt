@@ -7,7 +7,6 @@ use crate::lent::do_rx;
 use crate::lent::set_bases;
 use crate::lent::set_irq;
 use crate::lent::set_power;
-use crate::records;
 use arguments::byte;
 use arguments::hertz;
 use commands::Operation;
@@ -46,12 +45,12 @@ pub fn done(
         Operation::DoRx => do_rx(args, parting, board.rx_boost, image, log, used),
         Operation::SetIrqParams => set_irq(args, parting, image, log, used),
         Operation::SetModulationParams => {
-            set_modulation_params(image, log, used, v, records::modulation(args, parting))
+            set_modulation_params(image, log, used, v, asked::modulation(args, parting))
         }
         Operation::SetPacketParams => {
-            set_packet_params(image, log, used, v, records::packet(args, parting))
+            set_packet_params(image, log, used, v, asked::packet(args, parting))
         }
-        Operation::Program => link::program(image, log, used, board, records::link(args, parting)),
+        Operation::Program => link::program(image, log, used, board, asked::link(args, parting)),
         _ => Answer::Done(used),
     }
 }

@@ -2,7 +2,6 @@
 mod choice;
 mod created;
 mod lent;
-mod records;
 
 pub use choice::done;
 pub use created::create_modulation;

@@ -1,14 +1,13 @@
 // One access each: its record in the log and its effect on the image. The place where the next record goes is returned.
 ghost use mathlib.Core.Path.{_≡_};
-ghost use mathlib.Core.List.{List, [], _∷_};
-ghost use Prim.Native.Nat.{ℕ, _+_, _≤_, _<_};
+ghost use mathlib.Core.List.{[], _∷_};
+ghost use Prim.Native.Nat.{_+_, _≤_};
 ghost use lib.ListN.{length, getD};
 ghost use Rattle.registers.specs.Values.{address};
-ghost use Rattle.log.specs.Access.{put3, store};
 ghost use Rattle.log.specs.Steps.{Done, Read, Write, Modify, SleepWrite};
 use log::append;
-use log::stored;
 use registers::radio_kind_params::Register;
+use writes::write_kind;
 
 // What the register holds; the next record goes three bytes on.
 pub fn read_register(image: &[u8], log: &mut [u8], at: usize, register: Register) -> u8
@@ -20,16 +19,6 @@ pub fn read_register(image: &[u8], log: &mut [u8], at: usize, register: Register
     let value = image[addr as usize];
     append(log, at, 0, addr, value);
     value
-}
-
-// A write of kind 1 or 6.
-fn write_kind(image: &mut [u8], log: &mut [u8], at: usize, kind: u8, addr: u8, v: u8) -> usize
-    requires { ⌜ (at + 3 ≤ length (now log)) × (addr < length (now image)) ⌝ }
-    ensures { λ r. ⌜ (r ≡ at + 3) × (now (log .exit) ≡ put3 (now (log .entry)) at kind addr v) × (now (image .exit) ≡ store addr v (now (image .entry))) ⌝ }
-{
-    let old = image[addr as usize];
-    image[addr as usize] = stored(addr, v, old);
-    append(log, at, kind, addr, v)
 }
 
 pub fn write_register(

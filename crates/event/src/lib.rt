@@ -82,7 +82,7 @@ pub fn process_irq_event(
     ensures { λ r. ⌜ Meets (processIrq mode «rx_mode» clear (now (image .entry)) (now (log .entry)) used) (tellsIrq r) (usedIrq r) (now (image .exit)) [] (now (log .exit)) [] ⌝ }
 {
     let code = radio_mode(mode, rx_mode);
-    let asked = refusals::flag(clear).or(event_refusal(code));
+    let asked = codes::flag(clear).or(event_refusal(code));
     let records = event_records(clear);
     match admit(image, log, used, asked, records) {
         Verdict::Refused(e) => IrqAnswer::Refused(e, used),

@@ -109,7 +109,7 @@ pub fn set_packet_params(
 ) -> Answer
     ensures { λ r. ⌜ Meets (setPacket variant «pkt_params» (now (image .entry)) (now (log .entry)) used) (tellsDone r) (usedDone r) (now (image .exit)) [] (now (log .exit)) [] ⌝ }
 {
-    let asked = parameters::packet_named(
+    let asked = judgements::packet_named(
         pkt_params.implicit_header,
         pkt_params.crc_on,
         pkt_params.iq_inverted,

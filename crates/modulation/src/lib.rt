@@ -65,9 +65,9 @@ fn modulation_records(variant: Variant) -> usize
 fn modulation_refusal(variant: Variant, p: ModulationParams) -> Verdict
     ensures { λ r. ⌜ r ≡ modulationRefusal variant p ⌝ }
 {
-    let had = parameters::modulation_had(variant, p.spreading_factor, p.bandwidth);
-    let rest = refusals::flag(p.low_data_rate_optimize).or(had);
-    parameters::modulation_named(p.spreading_factor, p.bandwidth, p.coding_rate).or(rest)
+    let had = judgements::modulation_had(variant, p.spreading_factor, p.bandwidth);
+    let rest = codes::flag(p.low_data_rate_optimize).or(had);
+    judgements::modulation_named(p.spreading_factor, p.bandwidth, p.coding_rate).or(rest)
 }
 
 pub fn set_modulation_params(

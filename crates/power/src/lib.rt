@@ -90,7 +90,7 @@ pub fn set_tx_power_and_ramp_time(
 ) -> Answer
     ensures { λ r. ⌜ Meets (setPower board «p_out» «is_tx_prep» (now (image .entry)) (now (log .entry)) used) (tellsDone r) (usedDone r) (now (image .exit)) [] (now (log .exit)) [] ⌝ }
 {
-    let asked = refusals::flag(is_tx_prep);
+    let asked = codes::flag(is_tx_prep);
     let variant = board.variant;
     match admit(image, log, used, asked, power_records(variant)) {
         Verdict::Refused(e) => Answer::Refused(e, used),

@@ -1,48 +1,11 @@
-// What an argument is refused by: each refusal is decided in one place.
+// What an argument that names a case is refused by: each refusal is decided in one place.
 ghost use mathlib.Core.Path.{_≡_};
-ghost use Rattle.refusals.specs.Refusals.{named, spreadingFactor, bandwidth, codingRate, flag, baseAddresses, payloadLength, spreadingFactorValue, bandwidthValue, bandwidthForFrequency, headerForSpreadingFactor, frequencyRange, carrier};
+ghost use Rattle.refusals.specs.Refusals.{baseAddresses, payloadLength, spreadingFactorValue, bandwidthValue, bandwidthForFrequency, headerForSpreadingFactor, frequencyRange, carrier};
 use params::mod_params::RadioError;
 use params::mod_params::Verdict;
 use sheets::NO_CODE;
 use sheets::Variant;
 use units::Hertz;
-
-// 8: a code that names no case.
-fn named(code: u8, first: u8, last: u8) -> Verdict
-    ensures { λ r. ⌜ r ≡ named first last code ⌝ }
-{
-    if code < first {
-        return Verdict::Refused(RadioError::InvalidConfiguration);
-    }
-    if last < code {
-        return Verdict::Refused(RadioError::InvalidConfiguration);
-    }
-    Verdict::Clear
-}
-
-pub fn spreading_factor(code: u8) -> Verdict
-    ensures { λ r. ⌜ r ≡ spreadingFactor code ⌝ }
-{
-    named(code, 5, 12)
-}
-
-pub fn bandwidth(code: u8) -> Verdict
-    ensures { λ r. ⌜ r ≡ bandwidth code ⌝ }
-{
-    named(code, 0, 9)
-}
-
-pub fn coding_rate(code: u8) -> Verdict
-    ensures { λ r. ⌜ r ≡ codingRate code ⌝ }
-{
-    named(code, 1, 4)
-}
-
-pub fn flag(code: u8) -> Verdict
-    ensures { λ r. ⌜ r ≡ flag code ⌝ }
-{
-    named(code, 0, 1)
-}
 
 // 11: a base above 255.
 pub fn base_addresses(tx: usize, rx: usize) -> Verdict

@@ -89,7 +89,7 @@ pub fn init_lora(
 ) -> Answer
     ensures { λ r. ⌜ Meets (initLora board «is_public_network» (now (image .entry)) (now (log .entry)) used) (tellsDone r) (usedDone r) (now (image .exit)) [] (now (log .exit)) [] ⌝ }
 {
-    let asked = refusals::flag(is_public_network);
+    let asked = codes::flag(is_public_network);
     match admit(image, log, used, asked, init_records(board.tcxo_used)) {
         Verdict::Refused(e) => Answer::Refused(e, used),
         Verdict::Clear => Answer::Done(write_init(image, log, used, board, is_public_network)),

@@ -5,7 +5,7 @@ use Rattle.acceptance.proofs.link_had.Statement.{statement}
 use Rattle.acceptance.proofs.link_had.Tie as tie
 use Rattle.acceptance.proofs.link_had.Reads as reads
 use Rattle.acceptance.proofs.link_had.Lts as lts
-use Rattle.parameters.proofs.modulation_had.Reads as modulation-had-reads
+use Rattle.judgements.proofs.modulation_had.Reads as modulation-had-reads
 use Rattle.params.proofs.mod_params.Verdict.or.Reads as or-reads
 use Rattle.refusals.proofs.bandwidth_for_frequency.Reads as bandwidth-for-frequency-reads
 use Rattle.refusals.proofs.frequency_range.Reads as frequency-range-reads

@@ -5,10 +5,10 @@ use Rattle.acceptance.proofs.link_named.Statement.{statement}
 use Rattle.acceptance.proofs.link_named.Tie as tie
 use Rattle.acceptance.proofs.link_named.Reads as reads
 use Rattle.acceptance.proofs.link_named.Lts as lts
-use Rattle.parameters.proofs.modulation_named.Reads as modulation-named-reads
-use Rattle.parameters.proofs.packet_named.Reads as packet-named-reads
+use Rattle.judgements.proofs.modulation_named.Reads as modulation-named-reads
+use Rattle.judgements.proofs.packet_named.Reads as packet-named-reads
 use Rattle.params.proofs.mod_params.Verdict.or.Reads as or-reads
-use Rattle.refusals.proofs.flag.Reads as flag-reads
+use Rattle.codes.proofs.flag.Reads as flag-reads
 
 modulation-named-requires : tie.Need-modulation-named-requires
 modulation-named-requires c κs = search needs

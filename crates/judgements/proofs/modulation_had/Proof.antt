@@ -1,0 +1,17 @@
+-- `judgements::modulation_had` meets its contract: the verdicts follow each other.
+-- Assumes nothing.
+use borrow.Author.Needs.{needs}
+use Rattle.judgements.proofs.modulation_had.Statement.{statement}
+use Rattle.judgements.proofs.modulation_had.Tie as tie
+
+returns : tie.Need-returns
+returns c = cc
+
+pub modulation-had-spec : {M : Type 1} → statement M
+modulation-had-spec =
+    tie.close
+    (tie.spec
+    (λ c κs. search needs)
+    (λ c κs. search needs)
+    (λ c κs. search needs)
+    returns)
