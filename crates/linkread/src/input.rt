@@ -1,11 +1,10 @@
 // An input: a file or standard input, read whole and shown, or what is wrong with it.
-ghost use Rattle.linkread.specs.Within.{Within};
-ghost use Prim.Native.Nat.{_≤_};
-ghost use lib.ListN.{length};
 use crate::show::show_image;
 use crate::show::write_part;
 use crate::words::Asked;
 use dump::Read;
+use intake::Input;
+use intake::read_all;
 use libc::EACCES;
 use libc::EISDIR;
 use libc::ENOENT;
@@ -13,30 +12,6 @@ use libc::STDERR_FILENO;
 use libc::STDIN_FILENO;
 use libc::STDOUT_FILENO;
 use reading::same;
-
-pub(crate) enum Input {
-    Whole(usize),
-    More,
-    Failed,
-}
-
-fn read_all(fd: i32, buf: &mut [u8]) -> Input
-    ensures { λ r. ⌜ Within r (now (buf .exit)) ⌝ }
-{
-    let mut n = 0;
-    while n < buf.len() {
-        let got = libc::read(fd, &mut buf[n..]);
-        if got < 0 {
-            return Input::Failed;
-        }
-        let more = io::count(got, &buf[n..]);
-        if more == 0 {
-            return Input::Whole(n);
-        }
-        n += more;
-    }
-    Input::More
-}
 
 fn voice(a: Asked) -> i32 {
     if a.aloud {

@@ -12,10 +12,13 @@ use reader::last_examined;
 use registers::board::Board;
 use sheets::Variant;
 
+// What cannot be written is told, so that a table that was cut short is not taken for a whole one.
 pub fn write_part(fd: i32, text: &[u8], n: usize)
     requires { ⌜ n ≤ length (now text) ⌝ }
 {
-    io::write_all(fd, &text[..n]);
+    if !io::write_all(fd, &text[..n]) {
+        os::fail(b"linkread: standard output");
+    }
 }
 
 fn print_link(board: Board, o: Oscillator, pa_config: u8, l: Link) {

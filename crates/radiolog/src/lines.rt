@@ -1,7 +1,8 @@
 // Lines of standard input: each is answered in turn, over one image and one FIFO.
-ghost use Rattle.radiolog.specs.Within.{Within};
 use crate::command::act;
 use bytes::scan::find;
+use intake::Input;
+use intake::read_all;
 use libc::STDERR_FILENO;
 use libc::STDIN_FILENO;
 use libc::STDOUT_FILENO;
@@ -9,31 +10,6 @@ use orders::Flaw;
 use orders::judged;
 use orders::put_wrong;
 use registers::board::Board;
-
-enum Input {
-    Whole(usize),
-    More,
-    Failed,
-}
-
-// Reads standard input to its end.
-fn read_input(buf: &mut [u8]) -> Input
-    ensures { λ r. ⌜ Within r (now (buf .exit)) ⌝ }
-{
-    let mut n = 0;
-    while n < buf.len() {
-        let got = libc::read(STDIN_FILENO, &mut buf[n..]);
-        if got < 0 {
-            return Input::Failed;
-        }
-        let more = io::count(got, &buf[n..]);
-        if more == 0 {
-            return Input::Whole(n);
-        }
-        n += more;
-    }
-    Input::More
-}
 
 fn write(text: &[u8]) -> bool {
     let written = io::write_all(STDOUT_FILENO, text);
@@ -78,7 +54,7 @@ fn answer_lines(board: Board, text: &[u8]) {
 
 pub fn answer_input(board: Board) {
     let mut buf = io::large_buffer();
-    match read_input(&mut buf) {
+    match read_all(STDIN_FILENO, &mut buf) {
         Input::Failed => os::fail(b"radiolog: standard input"),
         Input::More => {
             io::write_all(STDERR_FILENO, b"radiolog: the input is over 65535 bytes\n");

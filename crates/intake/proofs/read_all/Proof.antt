@@ -1,24 +1,25 @@
--- `radiolog::lines::read_input` is safe and ends: each turn reads a byte.
+-- `intake::read_all` meets its contract: what was read lies at the start of the buffer.
 -- Assumes nothing.
-use borrow.Author.Needs.{needs}
-use lib.Seq.{length-take-le}
-use lib.ListN.{length}
-use Prim.Native.Nat.{_-_, _≤_}
 use mathlib.Core.Path.{_≡_, sym}
-use Rattle.radiolog.proofs.lines.read_input.Statement.{statement}
-use Rattle.radiolog.proofs.lines.read_input.Tie as tie
+use Prim.Native.Nat.{_-_, _≤_}
+use native.Mathlib.Omega.{arith}
+use lib.ListN.{length}
+use lib.Seq.{length-take-le}
+use borrow.Author.Needs.{needs}
+use Rattle.intake.proofs.read_all.Statement.{statement}
+use Rattle.intake.proofs.read_all.Tie as tie
 
 abbrev Inv-loop : tie.InvT-loop
-Inv-loop buf₀ n₀ buf n = (n ≤ length buf) × (length buf ≡ length buf₀)
+Inv-loop fd buf₀ n₀ buf n = (n ≤ length buf) × (length buf ≡ length buf₀)
 
 abbrev μ-loop : tie.MeasureT-loop
-μ-loop buf₀ n₀ buf n = length buf - n
+μ-loop fd buf₀ n₀ buf n = length buf - n
 
 returns-2 : tie.Need-returns-2 Inv-loop μ-loop
 returns-2 c = (search needs, sym (length-take-le _ _ (search needs)))
 
-pub read-input-spec : {M : Type 1} → statement M
-read-input-spec =
+pub read-all-spec : {M : Type 1} → statement M
+read-all-spec =
     tie.close
     (tie.spec
     Inv-loop
