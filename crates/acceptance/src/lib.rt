@@ -24,9 +24,12 @@ fn link_had(variant: Variant, link: Link) -> Verdict
     ensures { λ r. ⌜ r ≡ linkHad variant link ⌝ }
 {
     let frequency = link.frequency;
-    let header = refusals::header_for_spreading_factor(link.spreading_factor, link.implicit_header);
-    let range = refusals::frequency_range(frequency);
-    let band = refusals::bandwidth_for_frequency(link.bandwidth, frequency);
+    let header = link_refusals::header_for_spreading_factor(
+        link.spreading_factor,
+        link.implicit_header,
+    );
+    let range = link_refusals::frequency_range(frequency);
+    let band = link_refusals::bandwidth_for_frequency(link.bandwidth, frequency);
     let had = judgements::modulation_had(variant, link.spreading_factor, link.bandwidth);
     had.or(band.or(header.or(range)))
 }

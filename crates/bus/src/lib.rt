@@ -3,7 +3,7 @@ ghost use mathlib.Core.Path.{_≡_};
 ghost use mathlib.Core.List.{[], _∷_};
 ghost use Prim.Native.Nat.{_+_, _≤_};
 ghost use lib.ListN.{length, getD};
-ghost use Rattle.registers.specs.Values.{address};
+ghost use Rattle.registers.specs.Addresses.{address};
 ghost use Rattle.log.specs.Steps.{Done, Read, Write, Modify, SleepWrite};
 use log::append;
 use registers::radio_kind_params::Register;

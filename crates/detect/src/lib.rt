@@ -10,12 +10,12 @@ ghost use Rattle.admit.specs.Call.{Meets};
 ghost use Rattle.operations.specs.Modes.{detecting, doCad};
 use admit::admit;
 use bus::write_register;
-use log::enable_rf_switch_rx;
 use params::answers::Answer;
 use params::mod_params::Verdict;
-use registers::radio_kind_params::LnaGain;
-use registers::radio_kind_params::LoRaMode;
+use pins::enable_rf_switch_rx;
 use registers::radio_kind_params::Register;
+use values::LnaGain;
+use values::LoRaMode;
 
 pub fn lna_gain(rx_boost: bool) -> u8
     ensures { λ r. ⌜ r ≡ lna «rx_boost» ⌝ }

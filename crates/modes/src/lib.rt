@@ -9,12 +9,12 @@ ghost use Rattle.admit.specs.Call.{Meets};
 ghost use Rattle.operations.specs.Modes.{standby, transmission, setStandby, doTx};
 use admit::admit;
 use bus::write_register;
-use log::disable_rf_switch;
-use log::enable_rf_switch_tx;
 use params::answers::Answer;
 use params::mod_params::Verdict;
-use registers::radio_kind_params::LoRaMode;
+use pins::disable_rf_switch;
+use pins::enable_rf_switch_tx;
 use registers::radio_kind_params::Register;
+use values::LoRaMode;
 
 fn write_standby(image: &mut [u8], log: &mut [u8], at: usize) -> usize
     requires { ⌜ (at + 6 ≤ length (now log)) × (length (now image) ≡ 128) ⌝ }

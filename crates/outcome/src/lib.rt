@@ -7,7 +7,7 @@ ghost use Rattle.operations.specs.Interrupts.{eventTold};
 use params::answers::IrqAnswer;
 use params::mod_params::RadioError;
 use params::mod_params::RadioMode;
-use registers::radio_kind_params::IrqMask;
+use values::IrqMask;
 
 fn tx_answer(irq_flags: u8, used: usize) -> IrqAnswer
     ensures { λ r. ⌜ (tellsIrq r ≡ eventTold (event transmitting «irq_flags»)) × (usedIrq r ≡ used) ⌝ }

@@ -24,7 +24,7 @@ pub fn create_modulation_params(
     ensures { λ r. ⌜ tellsModulation r ≡ createModulation variant «spreading_factor» bandwidth «coding_rate» «frequency_in_hz» ⌝ }
 {
     let frequency = Hertz(frequency_in_hz);
-    let band = refusals::bandwidth_for_frequency(bandwidth, frequency);
+    let band = link_refusals::bandwidth_for_frequency(bandwidth, frequency);
     let had = modulation_had(variant, spreading_factor, bandwidth).or(band);
     match modulation_named(spreading_factor, bandwidth, coding_rate).or(had) {
         Verdict::Refused(e) => ModulationAnswer::Refused(e),
@@ -51,7 +51,7 @@ pub fn create_packet_params(
 ) -> PacketAnswer
     ensures { λ r. ⌜ tellsPacket r ≡ createPacket «preamble_length» «implicit_header» «payload_length» «crc_on» «iq_inverted» «spreading_factor» ⌝ }
 {
-    let header = refusals::header_for_spreading_factor(spreading_factor, implicit_header);
+    let header = link_refusals::header_for_spreading_factor(spreading_factor, implicit_header);
     let factor = codes::spreading_factor(spreading_factor).or(header);
     match packet_named(implicit_header, crc_on, iq_inverted).or(factor) {
         Verdict::Refused(e) => PacketAnswer::Refused(e),

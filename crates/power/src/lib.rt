@@ -5,7 +5,7 @@ ghost use Prim.Native.Nat.{_+_, _*_, _≤_, _<_};
 ghost use lib.ListN.{length};
 ghost use Rattle.sheets.specs.Power.{paRamp};
 ghost use Rattle.params.specs.Answers.{tellsDone, usedDone};
-ghost use Rattle.registers.specs.Values as value;
+ghost use Rattle.values.specs.Values as value;
 ghost use Rattle.log.specs.Steps.{Done};
 ghost use Rattle.admit.specs.Call.{Meets};
 ghost use Rattle.operations.specs.Power.{amplifier, rampCode, power, setPower};
@@ -15,10 +15,10 @@ use bus::write_register;
 use params::answers::Answer;
 use params::mod_params::Verdict;
 use registers::board::Board;
-use registers::board::ramp_bit;
-use registers::radio_kind_params::RampTime;
 use registers::radio_kind_params::Register;
 use sheets::Variant;
+use values::RampTime;
+use variants::ramp_bit;
 
 fn set_tx_power(
     image: &mut [u8],

@@ -25,7 +25,7 @@ use Rattle.lora_page.specs.Links.{accepted, Accepted}
 use Rattle.lora_page.specs.Lora.{places, blank, placesOf, page}
 use Rattle.lora_page.proofs.Lawful.{lawful}
 use Rattle.lora_page.proofs.Sequence.{whole-programming}
-use Rattle.reader.specs.Tests.{registers, alike, keeps, fitsSoFar}
+use Rattle.trial.specs.Tests.{registers, alike, keeps, fitsSoFar}
 
 -- ---- the places' addresses are the reader's order
 

@@ -1,3 +1,3 @@
-// The radio's registers, the values that are written to them, and what each variant and board has of its own.
+// The radio's registers by name, and boards.
 pub mod board;
 pub mod radio_kind_params;

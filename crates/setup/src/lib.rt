@@ -15,9 +15,9 @@ use bus::write_register;
 use params::answers::Answer;
 use params::mod_params::Verdict;
 use registers::board::Board;
-use registers::board::reg_tcxo;
 use registers::radio_kind_params::Register;
 use sheets::Variant;
+use variants::reg_tcxo;
 
 const LORA_MAC_PUBLIC_SYNCWORD: u8 = 0x34;
 

@@ -1,10 +1,11 @@
 // A received packet's signal, in whole dB and dBm, from the bytes that the radio reports.
 ghost use mathlib.Core.Path.{_≡_};
-ghost use Prim.Native.Nat.{_*_, _/_, _^_, _<_};
+ghost use Prim.Native.Nat.{_^_, _<_};
 ghost use lib.IntN.{pos, negsuc};
 ghost use lib.Signed.{_≤ℤ_};
 ghost use Rattle.sheets.specs.Signal.{snr, offset, rssi};
 use params::mod_params::PacketStatus;
+use scaling::scaled;
 use sheets::Variant;
 use units::Steps;
 
@@ -15,14 +16,6 @@ const SX1276_RSSI_OFFSET_LF: i16 = -164;
 const SX1276_RSSI_OFFSET_HF: i16 = -157;
 
 const SX1276_RF_MID_BAND_THRESH: u32 = 525_000_000;
-
-// The whole part of 16 p / 15, worked out in f32 as the Rust does.
-fn scaled(p: u8) -> i16
-    ensures { λ r. ⌜ r ≡ pos (16 * p / 15) ⌝ }
-{
-    let x = (p as f32) * 16.0 / 15.0;
-    std::num::truncating_f32_to_u64(x) as i16
-}
 
 // RegPktSnrValue counts quarter dB; the quotient goes toward zero, so that 0xfd to 0xff are 0.
 pub fn snr(raw: u8) -> i16

@@ -9,11 +9,11 @@ ghost use Rattle.admit.specs.Call.{Meets};
 ghost use Rattle.operations.specs.Modes.{sleep, resetting, setSleep, reset};
 use admit::admit;
 use bus::write_sleep;
-use log::disable_rf_switch;
 use params::answers::Answer;
 use params::mod_params::Verdict;
-use registers::radio_kind_params::LoRaMode;
+use pins::disable_rf_switch;
 use registers::radio_kind_params::Register;
+use values::LoRaMode;
 
 fn write_sleeping(image: &mut [u8], log: &mut [u8], at: usize) -> usize
     requires { ⌜ (at + 6 ≤ length (now log)) × (length (now image) ≡ 128) ⌝ }
@@ -37,7 +37,7 @@ fn write_reset(image: &mut [u8], log: &mut [u8], at: usize) -> usize
     requires { ⌜ (at + 9 ≤ length (now log)) × (length (now image) ≡ 128) ⌝ }
     ensures { λ r. ⌜ Done resetting (now (image .entry)) (now (log .entry)) at r (now (image .exit)) (now (log .exit)) ⌝ }
 {
-    let at = log::reset(log, at);
+    let at = pins::reset(log, at);
     write_sleeping(image, log, at)
 }
 

@@ -13,9 +13,9 @@ use bus::write_register;
 use levels::clamp;
 use levels::level;
 use levels::pa_dac;
-use registers::board::Sx1272;
 use registers::radio_kind_params::Register;
 use sheets::Variant;
+use variants::Sx1272;
 
 const PA_BOOST: u8 = 0x80;
 

@@ -14,10 +14,10 @@ use bus::write_register;
 use levels::clamp;
 use levels::level;
 use levels::pa_dac;
-use log::enable_rf_switch_rx;
-use registers::board::Sx1276;
+use pins::enable_rf_switch_rx;
 use registers::radio_kind_params::Register;
 use sheets::Variant;
+use variants::Sx1276;
 
 // With over current protection on.
 const OCP_TRIM_240MA: u8 = 0x3b;

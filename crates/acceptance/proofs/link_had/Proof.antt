@@ -7,9 +7,9 @@ use Rattle.acceptance.proofs.link_had.Reads as reads
 use Rattle.acceptance.proofs.link_had.Lts as lts
 use Rattle.judgements.proofs.modulation_had.Reads as modulation-had-reads
 use Rattle.params.proofs.mod_params.Verdict.or.Reads as or-reads
-use Rattle.refusals.proofs.bandwidth_for_frequency.Reads as bandwidth-for-frequency-reads
-use Rattle.refusals.proofs.frequency_range.Reads as frequency-range-reads
-use Rattle.refusals.proofs.header_for_spreading_factor.Reads as header-for-spreading-factor-reads
+use Rattle.link_refusals.proofs.bandwidth_for_frequency.Reads as bandwidth-for-frequency-reads
+use Rattle.link_refusals.proofs.frequency_range.Reads as frequency-range-reads
+use Rattle.link_refusals.proofs.header_for_spreading_factor.Reads as header-for-spreading-factor-reads
 
 header-for-spreading-factor-requires : tie.Need-header-for-spreading-factor-requires
 header-for-spreading-factor-requires c κs = search needs

@@ -10,7 +10,10 @@ write-kind-requires : tie.Need-write-kind-requires
 write-kind-requires c κs = omega (arith, address-lt (c .before .before .before .before .before .args .register))
 
 returns : tie.Need-returns
-returns c = record { ends = cc; logged = cc; stored = cc }
+returns c =
+    let w = c .before .before .before .before in
+    let a = w .before .read-addr .ensures in
+    record { ends = w .write-kind .ensures .0; logged = rw (← a) (w .write-kind .ensures .1); stored = rw (← a) (w .write-kind .ensures .2) }
 
 pub write-register-spec : {M : Type 1} → statement M
 write-register-spec =

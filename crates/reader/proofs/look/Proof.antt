@@ -18,7 +18,7 @@ use Rattle.registers.specs.declared.board.Board.{Board}
 use Rattle.page.specs.Page.{Image, guess as guessed, first, fits, find, improved}
 use Rattle.lora_page.specs.Lora.{placesOf, page}
 use Rattle.reader.specs.Look.{Fit}
-use Rattle.reader.proofs.Order.{order-lt, order-le}
+use Rattle.trial.proofs.Order.{order-lt, order-le}
 use Rattle.reader.proofs.SoFar.{so-far, next-guess, begins}
 use Rattle.reader.proofs.look.Statement.{statement}
 use Rattle.reader.proofs.look.Tie as tie
