@@ -33,7 +33,11 @@ or-requires-3 : tie.Need-or-requires-3
 or-requires-3 c κs = search needs
 
 returns : tie.Need-returns
-returns c = cc
+returns c =
+    let h = c .before .before .before in
+    let b = h .before in
+    let r = b .before in
+    rw (c .or3 .ensures, c .before .or2 .ensures, c .before .before .or .ensures, h .modulation-had .ensures, b .bandwidth-for-frequency .ensures, r .frequency-range .ensures, r .before .header-for-spreading-factor .ensures)
 
 pub link-had-spec : {M : Type 1} → statement M
 link-had-spec =

@@ -26,7 +26,10 @@ or-requires-2 : tie.Need-or-requires-2
 or-requires-2 c κs = search needs
 
 returns : tie.Need-returns
-returns c = cc
+returns c =
+    let o = c .before in
+    let f = o .before in
+    rw (c .or2 .ensures, o .or .ensures, f .flag .ensures, f .before .packet-named .ensures, f .before .before .modulation-named .ensures)
 
 pub link-named-spec : {M : Type 1} → statement M
 link-named-spec =

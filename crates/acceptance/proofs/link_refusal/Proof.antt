@@ -20,7 +20,8 @@ or-requires : tie.Need-or-requires
 or-requires c κs = search needs
 
 returns : tie.Need-returns
-returns c = let a = c .before .before .before .args in rw (whole (a .variant) (a .link)) cc
+returns c =
+    let a = c .before .before .before .args in rw (whole (a .variant) (a .link), c .or .ensures, c .before .link-had .ensures, c .before .before .link-named .ensures)
 
 pub link-refusal-spec : {M : Type 1} → statement M
 link-refusal-spec = tie.close (tie.spec link-named-requires link-had-requires or-requires returns)

@@ -1,11 +1,15 @@
 -- `bases::write_bases` meets its contract: two writes.
 -- Assumes nothing.
 use borrow.Author.Needs.{needs}
+use Rattle.log.proofs.Runs.{then}
 use Rattle.bases.proofs.write_bases.Statement.{statement}
 use Rattle.bases.proofs.write_bases.Tie as tie
 
 returns : tie.Need-returns
-returns c = record { ends = cc; logged = cc; stored = cc }
+returns c =
+    let second = c .before .before .before .before in
+    let first = second .before .before .before .before .before .before .before in
+    then (first .write-register .ensures) (second .write-register2 .ensures)
 
 pub write-bases-spec : {M : Type 1} → statement M
 write-bases-spec =

@@ -1,11 +1,15 @@
 -- `framing::write_preamble` meets its contract: two writes.
 -- Assumes nothing.
 use borrow.Author.Needs.{needs}
+use Rattle.log.proofs.Runs.{then}
 use Rattle.framing.proofs.write_preamble.Statement.{statement}
 use Rattle.framing.proofs.write_preamble.Tie as tie
 
 returns : tie.Need-returns
-returns c = record { ends = cc; logged = cc; stored = cc }
+returns c =
+    let second = c .before .before .before .before in
+    let first = second .before .before .before .before .before .before .before in
+    then (first .write-register .ensures) (second .write-register2 .ensures)
 
 pub write-preamble-spec : {M : Type 1} → statement M
 write-preamble-spec =

@@ -5,7 +5,9 @@ use Rattle.guess.proofs.frf_lsb.Statement.{statement}
 use Rattle.guess.proofs.frf_lsb.Tie as tie
 
 returns : tie.Need-returns
-returns c = cc
+returns c =
+    let m = c .before .before in
+    rw (c .tuned .ensures, c .before .from-frf .ensures, m .frf-mid .ensures, m .before .frf-msb .ensures, m .before .before .steps .ensures)
 
 pub frf-lsb-spec : {M : Type 1} → statement M
 frf-lsb-spec =

@@ -5,7 +5,9 @@ use Rattle.guess.proofs.frf_mid.Statement.{statement}
 use Rattle.guess.proofs.frf_mid.Tie as tie
 
 returns : tie.Need-returns
-returns c = cc
+returns c =
+    let m = c .before .before in
+    rw (c .tuned .ensures, c .before .from-frf .ensures, m .frf-msb .ensures, m .before .steps .ensures)
 
 pub frf-mid-spec : {M : Type 1} → statement M
 frf-mid-spec =

@@ -5,7 +5,7 @@ use Rattle.guess.proofs.frf_msb.Statement.{statement}
 use Rattle.guess.proofs.frf_msb.Tie as tie
 
 returns : tie.Need-returns
-returns c = cc
+returns c = rw (c .tuned .ensures, c .before .from-frf .ensures)
 
 pub frf-msb-spec : {M : Type 1} → statement M
 frf-msb-spec = tie.close (tie.spec (λ c κs. search needs) (λ c κs. search needs) returns)

@@ -5,7 +5,7 @@ use Rattle.judgements.proofs.modulation_had.Statement.{statement}
 use Rattle.judgements.proofs.modulation_had.Tie as tie
 
 returns : tie.Need-returns
-returns c = cc
+returns c = rw (c .or .ensures, c .before .spreading-factor-value .ensures, c .before .before .bandwidth-value .ensures)
 
 pub modulation-had-spec : {M : Type 1} → statement M
 modulation-had-spec =

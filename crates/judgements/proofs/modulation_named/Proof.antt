@@ -5,7 +5,9 @@ use Rattle.judgements.proofs.modulation_named.Statement.{statement}
 use Rattle.judgements.proofs.modulation_named.Tie as tie
 
 returns : tie.Need-returns
-returns c = cc
+returns c =
+    let o = c .before .before in
+    rw (c .or2 .ensures, c .before .spreading-factor .ensures, o .or .ensures, o .before .coding-rate .ensures, o .before .before .bandwidth .ensures)
 
 pub modulation-named-spec : {M : Type 1} → statement M
 modulation-named-spec =

@@ -5,7 +5,9 @@ use Rattle.judgements.proofs.packet_named.Statement.{statement}
 use Rattle.judgements.proofs.packet_named.Tie as tie
 
 returns : tie.Need-returns
-returns c = cc
+returns c =
+    let o = c .before .before in
+    rw (c .or2 .ensures, c .before .flag3 .ensures, o .or .ensures, o .before .flag2 .ensures, o .before .before .flag .ensures)
 
 pub packet-named-spec : {M : Type 1} → statement M
 packet-named-spec =

@@ -1,11 +1,18 @@
 -- `listening::write_listening` meets its contract: four writes.
 -- Assumes nothing.
 use borrow.Author.Needs.{needs}
+use Rattle.log.proofs.Runs.{then}
 use Rattle.listening.proofs.write_listening.Statement.{statement}
 use Rattle.listening.proofs.write_listening.Tie as tie
 
 returns : tie.Need-returns
-returns c = record { ends = cc; logged = cc; stored = cc }
+returns c =
+    let fourth = c .before .before .before .before in
+    let third = fourth .before .before .before .before .before .before .before in
+    let second = third .before .before .before .before .before .before .before in
+    let first = second .before .before .before .before .before .before .before in
+    then (rw (first .before .lna-gain .ensures) at (first .write-register .ensures))
+    (then (second .write-register2 .ensures) (then (third .write-register3 .ensures) (fourth .write-register4 .ensures)))
 
 pub write-listening-spec : {M : Type 1} → statement M
 write-listening-spec =

@@ -5,7 +5,9 @@ use Rattle.modulation.proofs.modulation_refusal.Statement.{statement}
 use Rattle.modulation.proofs.modulation_refusal.Tie as tie
 
 returns : tie.Need-returns
-returns c = cc
+returns c =
+    let o = c .before .before in
+    rw (c .or2 .ensures, c .before .modulation-named .ensures, o .or .ensures, o .before .flag .ensures, o .before .before .modulation-had .ensures)
 
 pub modulation-refusal-spec : {M : Type 1} → statement M
 modulation-refusal-spec =

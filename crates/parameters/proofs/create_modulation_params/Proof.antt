@@ -16,7 +16,9 @@ judged : (c : tie.After-or2)
     → let a = c .before .before .before .before .before .args in
     c .or2 .result
     ≡ or (modulationNamed (a .spreading-factor) (a .bandwidth) (a .coding-rate)) (or (modulationHad (a .variant) (a .spreading-factor) (a .bandwidth)) (bandwidthForFrequency (a .bandwidth) (a .frequency-in-hz)))
-judged c = cc
+judged c =
+    let o = c .before .before in
+    rw (c .or2 .ensures, c .before .modulation-named .ensures, o .or .ensures, o .before .modulation-had .ensures, o .before .before .bandwidth-for-frequency .ensures)
 
 low-data-rate-optimize-requires : tie.Need-low-data-rate-optimize-requires
 low-data-rate-optimize-requires c κs =

@@ -11,7 +11,9 @@ use Rattle.parameters.proofs.create_packet_params.Tie as tie
 judged : (c : tie.After-or2)
     → let a = c .before .before .before .before .before .args in
     c .or2 .result ≡ or (packetNamed (a .implicit-header) (a .crc-on) (a .iq-inverted)) (or (spreadingFactor (a .spreading-factor)) (headerForSpreadingFactor (a .spreading-factor) (a .implicit-header)))
-judged c = cc
+judged c =
+    let o = c .before .before in
+    rw (c .or2 .ensures, c .before .packet-named .ensures, o .or .ensures, o .before .spreading-factor .ensures, o .before .before .header-for-spreading-factor .ensures)
 
 returns : tie.Need-returns
 returns c = rw (sym (judged (c .before .before .before)) ∙ c .before .e .given .1)

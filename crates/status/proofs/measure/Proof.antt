@@ -21,7 +21,11 @@ returns c =
     let third = c .before .before .before in
     let second = third .before .before .before .before in
     let first = second .before .before .before .before in
-    (cc (held (third .rssi-offset .result) (third .rssi-offset .ok)), then (first .read-register .ensures .1) (then (second .read-register2 .ensures .1) (third .rssi-offset .ensures .1)))
+    let s = c .packet-status .ensures in
+    let o = third .rssi-offset in (
+      rw (s .0, s .1, held (o .result) (o .ok), o .ensures .0, second .read-register2 .ensures .0, first .read-register .ensures .0),
+      then (first .read-register .ensures .1) (then (second .read-register2 .ensures .1) (o .ensures .1)),
+    )
 
 pub measure-spec : {M : Type 1} → statement M
 measure-spec =

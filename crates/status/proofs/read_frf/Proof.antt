@@ -1,8 +1,8 @@
 -- `status::read_frf` meets its contract: three reads, joined.
 -- Assumes nothing.
 use borrow.Author.Needs.{needs}
-use native.Mathlib.Omega.{arith}
 use Rattle.log.proofs.Runs.{then}
+use Rattle.sheets.proofs.Frequency.{frf-lt}
 use Rattle.status.proofs.read_frf.Statement.{statement}
 use Rattle.status.proofs.read_frf.Tie as tie
 
@@ -11,7 +11,13 @@ returns c =
     let third = c .before .before .before in
     let second = third .before .before .before .before in
     let first = second .before .before .before .before in
-    ((cc, omega arith), then (first .read-register .ensures .1) (then (second .read-register2 .ensures .1) (third .read-register3 .ensures .1)))
+    let msb = first .read-register in
+    let mid = second .read-register2 in
+    let lsb = third .read-register3 in
+    let f = c .from-frf .ensures in (
+      (rw (f, msb .ensures .0, mid .ensures .0, lsb .ensures .0), rw f (frf-lt _ _ _ (msb .ok) (mid .ok) (lsb .ok))),
+      then (msb .ensures .1) (then (mid .ensures .1) (lsb .ensures .1)),
+    )
 
 pub read-frf-spec : {M : Type 1} → statement M
 read-frf-spec =

@@ -1,11 +1,13 @@
--- `writes::write_kind` meets its contract: `cc` follows the equations of the two calls.
+-- `writes::write_kind` meets its contract: the record is what `append` promises, and the byte in the image what `stored` does.
 -- Assumes nothing.
 use borrow.Author.Needs.{needs}
 use Rattle.writes.proofs.write_kind.Statement.{statement}
 use Rattle.writes.proofs.write_kind.Tie as tie
 
 returns : tie.Need-returns
-returns c = (cc, cc, cc)
+returns c =
+    let a = c .before .before in
+    (a .append .ensures .0, a .append .ensures .1, rw (a .before .before .stored .ensures))
 
 pub write-kind-spec : {M : Type 1} → statement M
 write-kind-spec =
