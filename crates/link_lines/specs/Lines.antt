@@ -9,7 +9,8 @@ use Rattle.sheets.specs.Modem.{hertz}
 use Rattle.params.specs.declared.mod_params.Link.{Link}
 use Rattle.reading.specs.Words.{ascii}
 use Rattle.printing.specs.Numbers.{signed}
-use Rattle.numerals.specs.Numbers.{counted, choice, megahertz, kilohertz, bytesText}
+use Rattle.frequencies.specs.Frequencies.{megahertz, kilohertz}
+use Rattle.numerals.specs.Numbers.{counted, choice, bytesText}
 
 abbrev pub syncLine : Link → List ℕ
 syncLine l = choice (l .«public_network») (ascii "sync word         0x34 (public)\n") (ascii "sync word         0x12 (private)\n")

@@ -5,7 +5,7 @@ ghost use Prim.Native.Nat.{_+_, _≤_};
 ghost use lib.ListN.{length};
 ghost use Rattle.printing.specs.Text.{Appended};
 ghost use Rattle.link_rows.specs.Rows.{field, fourFields, chip as chipOf, bit as bitOf, boardFields, modemFields, packetFields, lastFields, linkFields, ruledOutFields};
-use numerals::hertz_of;
+use frequencies::hertz_of;
 use numerals::put_byte;
 use numerals::put_counted;
 use params::mod_params::Link;

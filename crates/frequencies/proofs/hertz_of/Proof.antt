@@ -1,11 +1,11 @@
--- `numerals::hertz_of` meets its contract: the test is where the table ends.
+-- `frequencies::hertz_of` meets its contract: the test is where the table ends.
 -- Assumes nothing.
 use borrow.Author.Needs.{needs}
 use Rattle.reading.proofs.Tests.{past}
 use Rattle.sheets.specs.Modem.{bandwidths}
 use mathlib.Core.Path.{_≡_, refl, sym, ap, _∙_}
-use Rattle.numerals.proofs.hertz_of.Statement.{statement}
-use Rattle.numerals.proofs.hertz_of.Tie as tie
+use Rattle.frequencies.proofs.hertz_of.Statement.{statement}
+use Rattle.frequencies.proofs.hertz_of.Tie as tie
 
 returns-2 : tie.Need-returns-2
 unfolding bandwidths

@@ -1,14 +1,14 @@
--- `numerals::put_kilohertz` meets its contract: a whole number has no decimals.
+-- `frequencies::put_kilohertz` meets its contract: a whole number has no decimals.
 -- Assumes nothing.
 use borrow.Author.Needs.{needs}
-use Rattle.numerals.specs.Numbers.{kilohertz}
+use Rattle.frequencies.specs.Frequencies.{kilohertz}
 use mathlib.Core.List.{append-nil}
 use mathlib.Core.Path.{_≡_, refl, sym, ap, _∙_}
 use borrow.Author.Tests.{eq-eqb, ne-eqb, lt-ltb, le-ltb}
 use Rattle.printing.proofs.Appending.{then, same}
 use native.Mathlib.Omega.{arith}
-use Rattle.numerals.proofs.put_kilohertz.Statement.{statement}
-use Rattle.numerals.proofs.put_kilohertz.Tie as tie
+use Rattle.frequencies.proofs.put_kilohertz.Statement.{statement}
+use Rattle.frequencies.proofs.put_kilohertz.Tie as tie
 
 returns : tie.Need-returns
 unfolding kilohertz

@@ -1,10 +1,10 @@
--- `numerals::put_six_digits` meets its contract: two digits at a time.
+-- `frequencies::put_six_digits` meets its contract: two digits at a time.
 -- Assumes nothing.
 use borrow.Author.Needs.{needs}
 use Rattle.printing.proofs.Appending.{then, same}
 use native.Mathlib.Omega.{arith}
-use Rattle.numerals.proofs.put_six_digits.Statement.{statement}
-use Rattle.numerals.proofs.put_six_digits.Tie as tie
+use Rattle.frequencies.proofs.put_six_digits.Statement.{statement}
+use Rattle.frequencies.proofs.put_six_digits.Tie as tie
 
 returns : tie.Need-returns
 returns c =

@@ -1,11 +1,11 @@
--- `numerals::put_megahertz` meets its contract: one text behind another.
+-- `frequencies::put_megahertz` meets its contract: one text behind another.
 -- Assumes nothing.
 use borrow.Author.Needs.{needs}
-use Rattle.numerals.specs.Numbers.{megahertz}
+use Rattle.frequencies.specs.Frequencies.{megahertz}
 use Rattle.printing.proofs.Appending.{then, same}
 use native.Mathlib.Omega.{arith}
-use Rattle.numerals.proofs.put_megahertz.Statement.{statement}
-use Rattle.numerals.proofs.put_megahertz.Tie as tie
+use Rattle.frequencies.proofs.put_megahertz.Statement.{statement}
+use Rattle.frequencies.proofs.put_megahertz.Tie as tie
 
 returns : tie.Need-returns
 unfolding megahertz
