@@ -4,7 +4,7 @@ use printing::put_decimal;
 use printing::put_hex;
 use printing::put_signed;
 use reading::Case;
-use replies::wide;
+use reports::wide;
 
 pub fn text(t: &[u8]) {
     io::write_all(STDOUT_FILENO, t);

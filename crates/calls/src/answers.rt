@@ -19,7 +19,7 @@ pub fn done(a: Answer, out: &mut [u8]) -> Told
     requires { ⌜ 230 ≤ length (now out) ⌝ }
     ensures { λ r. ⌜ r .at ≤ 230 ⌝ }
 {
-    let at = replies::put_done(a, out, 0);
+    let at = reports::put_done(a, out, 0);
     match a {
         Answer::Done(used) => Told { at, used },
         Answer::Refused(_, used) => Told { at, used },
@@ -30,7 +30,7 @@ pub fn received(a: PayloadAnswer, out: &mut [u8]) -> Told
     requires { ⌜ 230 ≤ length (now out) ⌝ }
     ensures { λ r. ⌜ r .at ≤ 230 ⌝ }
 {
-    let at = replies::put_received(a, out, 0);
+    let at = reports::put_received(a, out, 0);
     match a {
         PayloadAnswer::Received(_, used) => Told { at, used },
         PayloadAnswer::Refused(_, used) => Told { at, used },
@@ -41,7 +41,7 @@ pub fn measured(a: StatusAnswer, out: &mut [u8]) -> Told
     requires { ⌜ 230 ≤ length (now out) ⌝ }
     ensures { λ r. ⌜ r .at ≤ 230 ⌝ }
 {
-    let at = replies::put_status(a, out, 0);
+    let at = reports::put_status(a, out, 0);
     match a {
         StatusAnswer::Measured(_, used) => Told { at, used },
         StatusAnswer::Refused(_, used) => Told { at, used },
@@ -52,7 +52,7 @@ pub fn event(a: IrqAnswer, out: &mut [u8]) -> Told
     requires { ⌜ 230 ≤ length (now out) ⌝ }
     ensures { λ r. ⌜ r .at ≤ 230 ⌝ }
 {
-    let at = replies::put_event(a, out, 0);
+    let at = reports::put_event(a, out, 0);
     match a {
         IrqAnswer::Nothing(used) => Told { at, used },
         IrqAnswer::PreambleReceived(used) => Told { at, used },
@@ -83,6 +83,6 @@ pub fn link(a: LinkAnswer, used: usize, out: &mut [u8]) -> Told
     requires { ⌜ 230 ≤ length (now out) ⌝ }
     ensures { λ r. ⌜ r .at ≤ 230 ⌝ }
 {
-    let at = settings::put_link(a, out, 0);
+    let at = link_values::put_link(a, out, 0);
     Told { at, used }
 }

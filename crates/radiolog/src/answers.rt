@@ -68,7 +68,7 @@ pub fn measured(a: StatusAnswer, log: &[u8], out: &mut [u8]) -> usize
     match a {
         StatusAnswer::Measured(_, used) => {
             let at = begun(log, used, out);
-            let at = replies::put_status(a, out, at);
+            let at = reports::put_status(a, out, at);
             ended(out, at)
         }
         StatusAnswer::Refused(e, used) => refused(e, log, used, out),
@@ -94,7 +94,7 @@ pub fn event(a: IrqAnswer, log: &[u8], out: &mut [u8]) -> usize
         IrqAnswer::Refused(e, _) => refused(e, log, used, out),
         _ => {
             let at = begun(log, used, out);
-            let at = replies::put_event(a, out, at);
+            let at = reports::put_event(a, out, at);
             ended(out, at)
         }
     }
@@ -121,7 +121,7 @@ pub fn received(a: PayloadAnswer, bytes: &[u8], log: &[u8], out: &mut [u8]) -> u
     match a {
         PayloadAnswer::Received(count, used) => {
             let at = begun(log, used, out);
-            let at = replies::put_received(a, out, at);
+            let at = reports::put_received(a, out, at);
             let at = put(b"\t", out, at);
             let at = packet(bytes, count as usize, out, at);
             ended(out, at)
@@ -166,7 +166,7 @@ pub fn link(a: LinkAnswer, out: &mut [u8]) -> usize
     match a {
         LinkAnswer::Found(_) => {
             let at = put(b"=\t", out, 0);
-            let at = settings::put_link(a, out, at);
+            let at = link_values::put_link(a, out, at);
             ended(out, at)
         }
         LinkAnswer::Refused(e) => put_refused(e, out, 0),

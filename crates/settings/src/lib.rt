@@ -1,20 +1,15 @@
-// Answers that tell settings, as text: those of the `create_` calls and of the reader.
-ghost use mathlib.Core.Path.{_≡_};
+// The answers of the `create_` calls as text: the settings that they made.
 ghost use Prim.Native.Nat.{_+_, _≤_};
 ghost use lib.ListN.{length};
-ghost use Rattle.params.specs.Answers.{modulationValues, packetValues, linkValues, tellsModulation, tellsPacket, tellsLink};
+ghost use Rattle.params.specs.Answers.{modulationValues, packetValues, tellsModulation, tellsPacket};
 ghost use Rattle.printing.specs.Text.{Appended};
 ghost use Rattle.replies.specs.Answers.{valuesText, answerText};
-ghost use Rattle.settings.specs.Link.{unsignedValues};
-use params::answers::LinkAnswer;
 use params::answers::ModulationAnswer;
 use params::answers::PacketAnswer;
-use params::mod_params::Link;
 use params::mod_params::ModulationParams;
 use params::mod_params::PacketParams;
 use printing::put;
 use replies::put_refusal;
-use replies::put_value;
 use replies::put_values;
 
 fn put_created(m: ModulationParams, out: &mut [u8], at: usize) -> usize
@@ -72,49 +67,5 @@ pub fn put_packet(a: PacketAnswer, out: &mut [u8], at: usize) -> usize
             put_framing(p, out, at)
         }
         PacketAnswer::Refused(e) => put_refusal(e, out, at),
-    }
-}
-
-// All of a link but the power.
-fn put_unsigned(l: Link, out: &mut [u8], at: usize) -> usize
-    requires { ⌜ at + 189 ≤ length (now out) ⌝ }
-    ensures { λ r. ⌜ Appended (valuesText (unsignedValues l)) at (now (out .entry)) r (now (out .exit)) ⌝ }
-    ensures { λ r. ⌜ r ≤ at + 189 ⌝ }
-{
-    let values = [
-        l.public_network as u64,
-        l.spreading_factor as u64,
-        l.bandwidth as u64,
-        l.coding_rate as u64,
-        l.frequency.0 as u64,
-        l.preamble_length as u64,
-        l.implicit_header as u64,
-        l.crc_on as u64,
-        l.iq_inverted as u64,
-    ];
-    put_values(&values, out, at)
-}
-
-fn put_settings(l: Link, out: &mut [u8], at: usize) -> usize
-    requires { ⌜ at + 211 ≤ length (now out) ⌝ }
-    ensures { λ r. ⌜ Appended (valuesText (linkValues l)) at (now (out .entry)) r (now (out .exit)) ⌝ }
-    ensures { λ r. ⌜ r ≤ at + 211 ⌝ }
-{
-    let power = l.power;
-    let at = put_unsigned(l, out, at);
-    put_value(power, out, at)
-}
-
-pub fn put_link(a: LinkAnswer, out: &mut [u8], at: usize) -> usize
-    requires { ⌜ at + 230 ≤ length (now out) ⌝ }
-    ensures { λ r. ⌜ Appended (answerText (tellsLink a)) at (now (out .entry)) r (now (out .exit)) ⌝ }
-    ensures { λ r. ⌜ r ≤ at + 230 ⌝ }
-{
-    match a {
-        LinkAnswer::Found(l) => {
-            let at = put(b"0", out, at);
-            put_settings(l, out, at)
-        }
-        LinkAnswer::Refused(e) => put_refusal(e, out, at),
     }
 }

@@ -1,11 +1,11 @@
--- `settings::put_link` meets its contract: each arm is the definition's case.
+-- `link_values::put_link` meets its contract: each arm is the definition's case.
 -- Assumes nothing.
 use borrow.Author.Needs.{needs}
 use native.Mathlib.Omega.{arith}
 use Rattle.printing.proofs.Appending.{same, then}
 use Rattle.replies.proofs.Values.{well}
-use Rattle.settings.proofs.put_link.Statement.{statement}
-use Rattle.settings.proofs.put_link.Tie as tie
+use Rattle.link_values.proofs.put_link.Statement.{statement}
+use Rattle.link_values.proofs.put_link.Tie as tie
 
 returns : tie.Need-returns
 returns c = (rw (c .before .before .before .before .before .before .before .before .before .before .a .given .1) (same (well _) (then (c .before .before .before .before .before .before .put .ensures) (c .before .before .put-settings .ensures .0))), omega arith)

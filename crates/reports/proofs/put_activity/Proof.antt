@@ -1,11 +1,11 @@
--- `replies::put_activity` meets its contract: each text is what the definition computes.
+-- `reports::put_activity` meets its contract: each text is what the definition computes.
 -- Assumes nothing.
 use borrow.Author.Needs.{needs}
 use native.Mathlib.Omega.{arith}
 use Rattle.printing.specs.Numbers.{decimal}
 use Rattle.replies.specs.Answers.{answerText}
-use Rattle.replies.proofs.put_activity.Statement.{statement}
-use Rattle.replies.proofs.put_activity.Tie as tie
+use Rattle.reports.proofs.put_activity.Statement.{statement}
+use Rattle.reports.proofs.put_activity.Tie as tie
 
 returns : tie.Need-returns
 unfolding answerText decimal

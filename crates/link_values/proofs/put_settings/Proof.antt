@@ -1,4 +1,4 @@
--- `settings::put_settings` meets its contract: the values without a sign, and then the power.
+-- `link_values::put_settings` meets its contract: the values without a sign, and then the power.
 -- Assumes nothing.
 use borrow.Author.Needs.{needs}
 use native.Mathlib.Omega.{arith}
@@ -12,9 +12,9 @@ use mir.ValLaws.{toZ-ofZ}
 use Rattle.printing.proofs.Appending.{same, then}
 use Rattle.replies.specs.Answers.{valuesText}
 use Rattle.replies.proofs.Values.{joined}
-use Rattle.settings.specs.Link.{unsignedValues}
-use Rattle.settings.proofs.put_settings.Statement.{statement}
-use Rattle.settings.proofs.put_settings.Tie as tie
+use Rattle.link_values.specs.Link.{unsignedValues}
+use Rattle.link_values.proofs.put_settings.Statement.{statement}
+use Rattle.link_values.proofs.put_settings.Tie as tie
 
 returns : tie.Need-returns
 returns c =

@@ -1,11 +1,11 @@
--- `replies::put_received` meets its contract: each arm is the definition's case.
+-- `reports::put_received` meets its contract: each arm is the definition's case.
 -- Assumes nothing.
 use borrow.Author.Needs.{needs}
 use native.Mathlib.Omega.{arith}
 use Rattle.printing.proofs.Appending.{same, then}
 use Rattle.replies.proofs.Values.{well}
-use Rattle.replies.proofs.put_received.Statement.{statement}
-use Rattle.replies.proofs.put_received.Tie as tie
+use Rattle.reports.proofs.put_received.Statement.{statement}
+use Rattle.reports.proofs.put_received.Tie as tie
 
 returns : tie.Need-returns
 returns c = (rw (c .before .before .before .before .before .before .before .before .before .before .before .a .given .1) (same (well _) (then (c .before .before .before .before .before .before .before .put .ensures) (c .before .before .put-values .ensures .0))), omega arith)

@@ -1,4 +1,4 @@
--- `replies::wide` meets its contract: a number of 16 bits is itself in 32.
+-- `reports::wide` meets its contract: a number of 16 bits is itself in 32.
 -- Assumes nothing.
 use borrow.Author.Needs.{needs}
 use native.Mathlib.Omega.{arith}
@@ -7,8 +7,8 @@ use lib.IntN.{ℤ}
 use mir.Syntax.{w16, w32}
 use mir.Val.{SFits}
 use mir.ValLaws.{toZ-ofZ}
-use Rattle.replies.proofs.wide.Statement.{statement}
-use Rattle.replies.proofs.wide.Tie as tie
+use Rattle.reports.proofs.wide.Statement.{statement}
+use Rattle.reports.proofs.wide.Tie as tie
 
 larger : {z : ℤ} → SFits w16 z → SFits w32 z
 larger f = record { sfits = omega (arith, f .sfits) }

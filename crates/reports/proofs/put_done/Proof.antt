@@ -1,12 +1,12 @@
--- `replies::put_done` meets its contract: each arm is the definition's case.
+-- `reports::put_done` meets its contract: each arm is the definition's case.
 -- Assumes nothing.
 use borrow.Author.Needs.{needs}
 use native.Mathlib.Omega.{arith}
 use mathlib.Core.List.{[]}
 use Rattle.printing.proofs.Appending.{same}
 use Rattle.replies.proofs.Values.{well}
-use Rattle.replies.proofs.put_done.Statement.{statement}
-use Rattle.replies.proofs.put_done.Tie as tie
+use Rattle.reports.proofs.put_done.Statement.{statement}
+use Rattle.reports.proofs.put_done.Tie as tie
 
 returns : tie.Need-returns
 returns c = (rw (c .before .before .before .before .before .enum-told .given .1) (same (well []) (c .before .before .put .ensures)), omega arith)

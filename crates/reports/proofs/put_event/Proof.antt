@@ -1,11 +1,11 @@
--- `replies::put_event` meets its contract: each arm is the definition's case.
+-- `reports::put_event` meets its contract: each arm is the definition's case.
 -- Assumes nothing.
 use borrow.Author.Needs.{needs}
 use native.Mathlib.Omega.{arith}
 use Rattle.printing.specs.Numbers.{decimal}
 use Rattle.replies.specs.Answers.{answerText}
-use Rattle.replies.proofs.put_event.Statement.{statement}
-use Rattle.replies.proofs.put_event.Tie as tie
+use Rattle.reports.proofs.put_event.Statement.{statement}
+use Rattle.reports.proofs.put_event.Tie as tie
 
 returns : tie.Need-returns
 unfolding answerText decimal

@@ -1,4 +1,4 @@
--- `replies::put_status` meets its contract: each arm is the definition's case.
+-- `reports::put_status` meets its contract: each arm is the definition's case.
 -- Assumes nothing.
 use borrow.Author.Needs.{needs}
 use native.Mathlib.Omega.{arith}
@@ -10,10 +10,10 @@ use lib.Signed.{mag}
 use mir.Syntax.{w16, w32}
 use mir.ValLaws.{toZ-ofZ}
 use Rattle.printing.proofs.Appending.{same, then}
 use Rattle.replies.specs.Answers.{valuesText}
 use Rattle.replies.proofs.Values.{well, joined}
-use Rattle.replies.proofs.put_status.Statement.{statement}
-use Rattle.replies.proofs.put_status.Tie as tie
+use Rattle.reports.proofs.put_status.Statement.{statement}
+use Rattle.reports.proofs.put_status.Tie as tie
 
 returns : tie.Need-returns
 returns c =
