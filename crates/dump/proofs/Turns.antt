@@ -1,7 +1,7 @@
--- Hex text taken apart at its next character, and lines and columns counted by one more.
+-- Hex text taken apart at its next character, and bytes copied whole.
 -- Assumes nothing.
 use mathlib.Core.Path.{_≡_, refl}
-use mathlib.Core.Bool.{true, cond}
+use mathlib.Core.Bool.{true}
 use mathlib.Core.List.{List, [], _∷_, _++_, append-nil}
 use Prim.Native.Nat.{ℕ, suc, _+_, _≤_, _<_}
 use native.Mathlib.Numerals.{add-one}
@@ -13,7 +13,6 @@ use Rattle.dump.specs.declared.text.State.{State}
 use Rattle.dump.specs.Text.{stepAt, next, given, bytesFrom, unless, verdictFrom}
 use Rattle.reading.proofs.Tests.{and-true}
 use Rattle.dump.specs.Dump.{isRaw}
-use Rattle.dump.specs.Spot.{lineFrom, columnFrom}
 
 module _ (s : List ℕ) (i : ℕ) (h : i < length s) where
   pub bytes-more : (t : State)
@@ -23,12 +22,6 @@ module _ (s : List ℕ) (i : ℕ) (h : i < length s) where
   pub verdict-more : (t : State) (n : ℕ)
       → verdictFrom t i n (drop i s) ≡ unless (stepAt t (getD s i 0)) i (verdictFrom (next (stepAt t (getD s i 0))) (i + 1) (n + length (given (stepAt t (getD s i 0)))) (drop (i + 1) s))
   verdict-more t n = rw (drop-cons s i 0) (rw (add-one i) refl)
-
-  pub line-more : (l : ℕ) → lineFrom l (drop i s) ≡ lineFrom (cond (eqb (getD s i 0) 10) (l + 1) l) (drop (i + 1) s)
-  line-more l = rw (add-one i, drop-cons s i 0)
-
-  pub column-more : (k : ℕ) → columnFrom k (drop i s) ≡ columnFrom (cond (eqb (getD s i 0) 10) 1 (k + 1)) (drop (i + 1) s)
-  column-more k = rw (add-one i, drop-cons s i 0)
 
 -- a copy of as many bytes as there are
 pub copied : (bytes old : List ℕ) → length old ≤ length bytes → take (length bytes) bytes ++ drop (length bytes) old ≡ bytes

@@ -1,7 +1,5 @@
 // Dumps of a pack's registers: raw bytes or hex text, found out by looking. What an input holds is said by the definitions in specs/.
 mod characters;
-mod faults;
-mod spot;
 mod text;
 
 ghost use mathlib.Core.Path.{_≡_};
@@ -9,9 +7,6 @@ ghost use Prim.Native.Nat.{_≤_};
 ghost use lib.ListN.{length};
 ghost use Rattle.dump.specs.Dump.{isRaw, readOf, leftOf};
 use characters::could_be_hex;
-pub use faults::put_fault;
-pub use spot::Spot;
-pub use spot::spot_behind;
 pub use text::Read;
 use text::read_text;
 

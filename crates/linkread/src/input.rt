@@ -40,7 +40,7 @@ fn say_unread(a: Asked, name: &[u8]) {
 
 fn say_fault(a: Asked, name: &[u8], read: Read, text: &[u8]) {
     let mut out = [0u8; 256];
-    let n = dump::put_fault(read, text, &mut out, 0);
+    let n = faults::put_fault(read, text, &mut out, 0);
     say(a, name, b"");
     write_part(voice(a), &out, n);
 }

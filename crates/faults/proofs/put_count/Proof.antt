@@ -1,10 +1,10 @@
--- `dump::faults::put_count` meets its contract: one text behind another.
+-- `faults::put_count` meets its contract: one text behind another.
 -- Assumes nothing.
 use borrow.Author.Needs.{needs}
 use Rattle.printing.proofs.Appending.{then, same}
 use native.Mathlib.Omega.{arith}
-use Rattle.dump.proofs.faults.put_count.Statement.{statement}
-use Rattle.dump.proofs.faults.put_count.Tie as tie
+use Rattle.faults.proofs.put_count.Statement.{statement}
+use Rattle.faults.proofs.put_count.Tie as tie
 
 returns : tie.Need-returns
 returns c =

@@ -1,16 +1,18 @@
-// What is wrong with an input, in words.
+// What is wrong with an input of registers, in words.
+mod spot;
+
 ghost use mathlib.Core.Path.{_≡_};
 ghost use mathlib.Core.List.{_++_};
 ghost use Prim.Native.Nat.{_+_, _≤_};
 ghost use lib.ListN.{length, take, getD};
 ghost use Rattle.printing.specs.Text.{Appended};
-ghost use Rattle.dump.specs.Faults.{placeText, badText, countText, faultText};
-use crate::spot::spot_behind;
-use crate::text::Read;
+ghost use Rattle.faults.specs.Faults.{placeText, badText, countText, faultText};
+use dump::Read;
 use printing::put;
 use printing::put_decimal;
 use printing::put_hex;
 use reading::Case;
+use spot::spot_behind;
 
 // The text before a place.
 fn before(s: &[u8], at: usize) -> &[u8]

@@ -1,8 +1,8 @@
--- `dump::spot::spot_behind` meets its contract: line and column of what is left, counted from here, are those of the whole.
+-- `faults::spot::spot_behind` meets its contract: line and column of what is left, counted from here, are those of the whole.
 -- Assumes nothing.
 use borrow.Author.Needs.{needs}
-use Rattle.dump.specs.Spot.{lineFrom, columnFrom}
-use Rattle.dump.proofs.Turns as turns
+use Rattle.faults.specs.Spot.{lineFrom, columnFrom}
+use Rattle.faults.proofs.Counted as counted
 use denote.Ref.{now}
 use lib.ListN.{length, drop, drop-of-length-le}
 use Prim.Native.Nat.{_+_, _-_, _≤_, _<_}
@@ -10,8 +10,8 @@ use mathlib.Core.Logic.{⊎-elim}
 use mathlib.Core.Path.{_≡_, refl, sym, ap, _∙_}
 use borrow.Author.Tests.{eq-eqb, ne-eqb, le-leb, lt-leb}
 use native.Mathlib.Omega.{arith}
-use Rattle.dump.proofs.spot.spot_behind.Statement.{statement}
-use Rattle.dump.proofs.spot.spot_behind.Tie as tie
+use Rattle.faults.proofs.spot.spot_behind.Statement.{statement}
+use Rattle.faults.proofs.spot.spot_behind.Tie as tie
 
 abbrev Inv-loop : tie.InvT-loop
 Inv-loop s line₀ column₀ i₀ line column i = (i ≤ length s) × (line ≤ i + 1) × (column ≤ i + 1) × (lineFrom line (drop i s) ≡ lineFrom 1 s) × (columnFrom column (drop i s) ≡ columnFrom 1 s)
@@ -27,8 +27,8 @@ loop-again c =
     let t = c .before .before in
     let l = t .before in
     let s = now (l .before .args .s) in
-    let lm = turns.line-more s (l .loop .i) (t .loop-test .taken) (l .loop .line) in
-    let cm = turns.column-more s (l .loop .i) (t .loop-test .taken) (l .loop .column) in
+    let lm = counted.line-more s (l .loop .i) (t .loop-test .taken) (l .loop .line) in
+    let cm = counted.column-more s (l .loop .i) (t .loop-test .taken) (l .loop .column) in
     ⊎-elim
     (λ (w, e, k). let n = eq-eqb _ 10 (w .taken) in (omega arith, omega arith, omega arith, rw e (sym (rw n at lm) ∙ l .loop .inv .3), rw k (sym (rw n at cm) ∙ l .loop .inv .4)))
     (λ (w, e, k). let n = ne-eqb _ 10 (w .left) in (omega arith, omega arith, omega arith, rw e (sym (rw n at lm) ∙ l .loop .inv .3), rw k (sym (rw n at cm) ∙ l .loop .inv .4)))

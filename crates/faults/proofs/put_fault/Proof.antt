@@ -1,11 +1,11 @@
--- `dump::faults::put_fault` meets its contract: each arm is the definition's case.
+-- `faults::put_fault` meets its contract: each arm is the definition's case.
 -- Assumes nothing.
 use borrow.Author.Needs.{needs}
 use Rattle.printing.proofs.Appending.{then, same}
 use native.Mathlib.Omega.{arith}
 use Rattle.printing.proofs.Appending.{nothing}
-use Rattle.dump.proofs.faults.put_fault.Statement.{statement}
-use Rattle.dump.proofs.faults.put_fault.Tie as tie
+use Rattle.faults.proofs.put_fault.Statement.{statement}
+use Rattle.faults.proofs.put_fault.Tie as tie
 
 returns : tie.Need-returns
 returns c = (rw (c .enum-told .given .1) (nothing _ _ (omega arith)), omega arith)

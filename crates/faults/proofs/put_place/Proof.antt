@@ -1,10 +1,10 @@
--- `dump::faults::put_place` meets its contract: one text behind another.
+-- `faults::put_place` meets its contract: one text behind another.
 -- Assumes nothing.
 use borrow.Author.Needs.{needs}
 use Rattle.printing.proofs.Appending.{then, same}
 use native.Mathlib.Omega.{arith}
-use Rattle.dump.proofs.faults.put_place.Statement.{statement}
-use Rattle.dump.proofs.faults.put_place.Tie as tie
+use Rattle.faults.proofs.put_place.Statement.{statement}
+use Rattle.faults.proofs.put_place.Tie as tie
 
 returns : tie.Need-returns
 returns c =
