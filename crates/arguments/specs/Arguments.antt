@@ -5,11 +5,11 @@ use Prim.Native.Nat.{ℕ, suc, _+_}
 use lib.Dec.{eqb}
 use lib.IntN.{ℤ, pos}
 use lib.ListN.{length}
-use Rattle.reading.specs.declared.decimal.Number.{Number}
-use Rattle.reading.specs.declared.decimal.Number.the-variants as number
-use Rattle.reading.specs.declared.decimal.Signed.{Signed}
-use Rattle.reading.specs.declared.decimal.Signed.the-variants as signed
-use Rattle.reading.specs.Decimal.{numberOf, signedOf}
+use Rattle.decimals.specs.declared.Number.{Number}
+use Rattle.decimals.specs.declared.Number.the-variants as number
+use Rattle.decimals.specs.declared.Signed.{Signed}
+use Rattle.decimals.specs.declared.Signed.the-variants as signed
+use Rattle.decimals.specs.Decimal.{numberOf, signedOf}
 use Rattle.reading.specs.Fields.{countOf, fieldAt}
 use Rattle.reading.specs.Words.{ascii, alike}
 use Rattle.commands.specs.Operations.{power}

@@ -1,15 +1,15 @@
 // Arguments: whether a text has an operation's, and what they are.
 ghost use mathlib.Core.Path.{_≡_};
 ghost use Prim.Native.Nat.{_≤_};
-ghost use Rattle.reading.specs.Decimal.{numberOf, signedOf};
+ghost use Rattle.decimals.specs.Decimal.{numberOf, signedOf};
 ghost use Rattle.commands.specs.Operations.{kinds as kindsOf, byte as byteMost, word as wordMost, hertz as hertzMost, count as countMost};
 ghost use Rattle.arguments.specs.Arguments.{isNumber, isSigned, ofKind, misfitFrom, fit as fitOf, argument, signedArgument};
 use commands::Operation;
-use reading::Number;
-use reading::Signed;
+use decimals::Number;
+use decimals::Signed;
+use decimals::read_number;
+use decimals::read_signed;
 use reading::field;
-use reading::read_number;
-use reading::read_signed;
 use signatures::BYTE;
 use signatures::COUNT;
 use signatures::HERTZ;

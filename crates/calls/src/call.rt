@@ -8,8 +8,8 @@ use arguments::count;
 use commands::Named;
 use commands::Operation;
 use commands::operation_named;
-use reading::Bytes;
-use reading::Case;
+use hex::Bytes;
+use hex::Case;
 use reading::field;
 use registers::board::Board;
 use requests::Flaw;
@@ -83,7 +83,7 @@ fn act(
 fn lend(text: &[u8], place: &mut [u8]) -> usize
     ensures { λ r. ⌜ Counts r (now (place .exit)) ⌝ }
 {
-    match reading::read_hex(text, Case::Lower, place) {
+    match hex::read_hex(text, Case::Lower, place) {
         Bytes::Are(n) => n,
         Bytes::NotHex => 0,
         Bytes::Over => 0,

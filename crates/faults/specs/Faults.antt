@@ -2,7 +2,7 @@
 use mathlib.Core.List.{List, [], _∷_, _++_}
 use Prim.Native.Nat.{ℕ}
 use lib.ListN.{length, take, getD}
-use Rattle.reading.specs.declared.hex.Case.the-variants.{Upper}
+use Rattle.hex.specs.declared.Case.the-variants.{Upper}
 use Rattle.reading.specs.Words.{ascii}
 use Rattle.printing.specs.Numbers.{decimal, hex}
 use Rattle.dump.specs.declared.text.Read.{Read}

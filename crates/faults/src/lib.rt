@@ -8,10 +8,10 @@ ghost use lib.ListN.{length, take, getD};
 ghost use Rattle.printing.specs.Text.{Appended};
 ghost use Rattle.faults.specs.Faults.{placeText, badText, countText, faultText};
 use dump::Read;
+use hex::Case;
 use printing::put;
 use printing::put_decimal;
 use printing::put_hex;
-use reading::Case;
 use spot::spot_behind;
 
 // The text before a place.

@@ -4,7 +4,7 @@ use mathlib.Core.List.{List, [], _∷_, _++_}
 use Prim.Native.Nat.{ℕ}
 use lib.Dec.{ltb}
 use lib.ListN.{getD}
-use Rattle.reading.specs.declared.hex.Case.the-variants.{Upper}
+use Rattle.hex.specs.declared.Case.the-variants.{Upper}
 use Rattle.reading.specs.Words.{ascii}
 use Rattle.printing.specs.Numbers.{hex}
 

@@ -3,7 +3,7 @@ use mathlib.Core.Bool.{cond}
 use mathlib.Core.List.{List, [], _∷_, _++_}
 use Prim.Native.Nat.{ℕ}
 use lib.Dec.{eqb}
-use Rattle.reading.specs.declared.hex.Case.the-variants.{Upper}
+use Rattle.hex.specs.declared.Case.the-variants.{Upper}
 use Rattle.reading.specs.Words.{ascii}
 use Rattle.printing.specs.Numbers.{decimal, hex}
 

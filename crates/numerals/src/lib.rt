@@ -5,10 +5,10 @@ ghost use lib.ListN.{length};
 ghost use Rattle.reading.specs.Words.{ascii};
 ghost use Rattle.printing.specs.Text.{Appended};
 ghost use Rattle.numerals.specs.Numbers.{counted, choice, byteText, bytesText};
+use hex::Case;
 use printing::put;
 use printing::put_decimal;
 use printing::put_hex;
-use reading::Case;
 
 pub fn put_counted(name: &[u8], n: u64, unit: &[u8], out: &mut [u8], at: usize) -> usize
     requires { ⌜ (length (now name) ≤ 24) × (length (now unit) ≤ 16) × (at + 60 ≤ length (now out)) ⌝ }

@@ -4,9 +4,9 @@ use mathlib.Core.List.{List}
 use Prim.Native.Nat.{ℕ, _+_}
 use lib.Dec.{leb, ltb}
 use lib.ListN.{length, getD}
-use Rattle.reading.specs.declared.hex.Case.the-variants.{Lower, Upper}
+use Rattle.hex.specs.declared.Case.the-variants.{Lower, Upper}
 use Rattle.reading.specs.Fields.{countOf, fieldAt}
-use Rattle.reading.specs.Hex.{ten, hexDigits}
+use Rattle.hex.specs.Hex.{ten, hexDigits}
 use Rattle.reading.specs.Words.{ascii, alike}
 use Rattle.commands.specs.declared.Operation.{Operation}
 use Rattle.commands.specs.declared.Named.{Named}

@@ -5,9 +5,9 @@ ghost use Rattle.orders.specs.Orders.{isBytes, isSend, surplusFlaw, byte
 use arguments::misfit;
 use commands::Named;
 use commands::Operation;
-use reading::Case;
+use hex::Case;
+use hex::is_hex;
 use reading::field;
-use reading::is_hex;
 use reading::same;
 use shorthand::command_named;
 use signatures::argument_count;

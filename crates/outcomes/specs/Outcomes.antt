@@ -4,7 +4,7 @@ use mathlib.Core.List.{List, [], _∷_, _++_}
 use Prim.Native.Nat.{ℕ}
 use lib.Dec.{eqb}
 use lib.ListN.{length}
-use Rattle.reading.specs.declared.hex.Case.the-variants.{Lower}
+use Rattle.hex.specs.declared.Case.the-variants.{Lower}
 use Rattle.reading.specs.Words.{ascii}
 use Rattle.printing.specs.Numbers.{decimal, hex}
 

@@ -4,10 +4,10 @@ ghost use Prim.Native.Nat.{_+_, _*_, _≤_};
 ghost use lib.ListN.{length};
 ghost use Rattle.printing.specs.Text.{Appended};
 ghost use Rattle.outcomes.specs.Outcomes.{lentText, usedText, leftText};
+use hex::Case;
 use printing::put;
 use printing::put_decimal;
 use printing::put_hex;
-use reading::Case;
 
 fn put_lent(s: &[u8], out: &mut [u8], at: usize) -> usize
     requires { ⌜ at + 2 + 2 * length (now s) ≤ length (now out) ⌝ }

@@ -4,8 +4,8 @@ use mathlib.Core.Bool.{cond}
 use Prim.Native.Nat.{ℕ, zero, suc, _+_, _-_, _/_, _%_}
 use lib.Dec.{ltb}
 use lib.IntN.{ℤ, pos, negsuc}
-use Rattle.reading.specs.declared.hex.Case.{Case}
-use Rattle.reading.specs.Hex.{ten}
+use Rattle.hex.specs.declared.Case.{Case}
+use Rattle.hex.specs.Hex.{ten}
 
 -- up to k decimal digits of n, the fewest that say it
 abbrev pub decimalFrom : ℕ → ℕ → List ℕ

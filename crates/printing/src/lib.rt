@@ -3,10 +3,10 @@ ghost use mathlib.Core.Path.{_≡_};
 ghost use Prim.Native.Nat.{_+_, _*_, _≤_, _<_};
 ghost use lib.IntN.{natAbs};
 ghost use lib.ListN.{length};
-ghost use Rattle.reading.specs.Hex.{ten as tenOf};
+ghost use Rattle.hex.specs.Hex.{ten as tenOf};
 ghost use Rattle.printing.specs.Text.{Appended};
 ghost use Rattle.printing.specs.Numbers.{decimal, signed, hexDigit, hex as hexOf};
-use reading::Case;
+use hex::Case;
 
 pub fn put(text: &[u8], out: &mut [u8], at: usize) -> usize
     requires { ⌜ at + length (now text) ≤ length (now out) ⌝ }

@@ -1,6 +1,7 @@
 // What a call appended and answered, as lines in a lent place. Each function answers where they end.
 ghost use Prim.Native.Nat.{_+_, _≤_};
 ghost use lib.ListN.{length};
+use hex::Case;
 use listing::put_records;
 use names::put_refused;
 use params::answers::Answer;
@@ -13,7 +14,6 @@ use params::answers::StatusAnswer;
 use params::mod_params::RadioError;
 use printing::put;
 use printing::put_hex;
-use reading::Case;
 
 // The records of a log that are used.
 fn records(log: &[u8], used: usize, out: &mut [u8]) -> usize

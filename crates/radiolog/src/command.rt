@@ -5,9 +5,9 @@ use crate::answers;
 use bytes::scan::find;
 use commands::Named;
 use commands::Operation;
+use hex::Bytes;
+use hex::Case;
 use params::answers::Answer;
-use reading::Bytes;
-use reading::Case;
 use reading::field;
 use registers::board::Board;
 use shorthand::command_named;
@@ -16,9 +16,9 @@ const TAB: u8 = b'\t';
 
 // The bytes that digits say, in either case; a dash says none.
 fn bytes_asked(text: &[u8], place: &mut [u8]) -> usize {
-    match reading::read_hex(text, Case::Lower, place) {
+    match hex::read_hex(text, Case::Lower, place) {
         Bytes::Are(n) => n,
-        _ => match reading::read_hex(text, Case::Upper, place) {
+        _ => match hex::read_hex(text, Case::Upper, place) {
             Bytes::Are(n) => n,
             _ => 0,
         },

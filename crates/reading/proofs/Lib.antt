@@ -1,6 +1,3 @@
 pub mod Tests
 pub mod Parted
-pub mod Valued
-pub mod Minus
-pub mod Pairs
 pub mod Alike

@@ -8,7 +8,7 @@ use native.Mathlib.Numerals.{add-one}
 use native.Mathlib.Omega.{arith}
 use lib.ListN.{length, drop, getD}
 use lib.Seq.{drop-cons}
-use Rattle.reading.specs.Decimal.{all}
+use Rattle.reading.specs.Words.{all}
 
 pub false≢true : false ≡ true → ⊥
 false≢true p = let z : _≡_ {A = ℕ} 0 1 = cc in omega arith

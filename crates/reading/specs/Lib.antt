@@ -1,4 +1,2 @@
 pub mod Fields
-pub mod Decimal
-pub mod Hex
 pub mod Words

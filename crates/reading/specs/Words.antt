@@ -1,4 +1,4 @@
--- Words: the bytes of a text, and whether two texts are the same.
+-- Words: the bytes of a text, whether each passes a test, and whether two texts are the same.
 use mathlib.Core.List.{List, [], _∷_}
 use mathlib.Core.Bool.{Bool, true, false, _&&_}
 use Prim.Native.Nat.{ℕ}
@@ -11,6 +11,11 @@ use lib.Dec.{eqb}
 abbrev pub ascii : String → List ℕ
 ascii text.[] = []
 ascii (text._∷_ c s) = code c ∷ ascii s
+
+-- each element of a list passes a test
+abbrev pub all : (ℕ → Bool) → List ℕ → Bool
+all p [] = true
+all p (x ∷ s) = p x && all p s
 
 abbrev pub alike : List ℕ → List ℕ → Bool
 alike [] [] = true

@@ -4,10 +4,10 @@ use mathlib.Core.List.{List, [], _∷_}
 use Prim.Native.Nat.{ℕ}
 use lib.Dec.{eqb, leb}
 use lib.ListN.{length}
-use Rattle.reading.specs.declared.hex.Case.the-variants.{Lower}
-use Rattle.reading.specs.Decimal.{numberOf}
+use Rattle.hex.specs.declared.Case.the-variants.{Lower}
+use Rattle.decimals.specs.Decimal.{numberOf}
 use Rattle.reading.specs.Fields.{countOf, fieldAt}
-use Rattle.reading.specs.Hex.{ten, hexDigits}
+use Rattle.hex.specs.Hex.{ten, hexDigits}
 use Rattle.reading.specs.Words.{ascii, alike}
 use Rattle.commands.specs.declared.Named.{Named}
 use Rattle.commands.specs.declared.Named.the-variants.{Known, Unknown}

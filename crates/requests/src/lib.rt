@@ -6,7 +6,7 @@ use arguments::is_number;
 use commands::Named;
 use commands::Operation;
 use commands::operation_named;
-use reading::Case;
+use hex::Case;
 use reading::field;
 use reading::same;
 
@@ -70,7 +70,7 @@ fn is_lent(s: &[u8]) -> bool
     if s.len() > 2048 {
         return false;
     }
-    reading::is_hex(s, Case::Lower)
+    hex::is_hex(s, Case::Lower)
 }
 
 // A flag in field k + 1.

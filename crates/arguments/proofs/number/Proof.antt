@@ -4,7 +4,7 @@ use borrow.Author.Needs.{needs}
 use mathlib.Core.Path.{_≡_}
 use native.Mathlib.Omega.{arith}
 use Rattle.arguments.specs.Arguments.{argument}
-use Rattle.reading.proofs.Valued.{within}
+use Rattle.decimals.proofs.Valued.{within}
 use Rattle.arguments.proofs.number.Statement.{statement}
 use Rattle.arguments.proofs.number.Tie as tie
 

@@ -4,7 +4,7 @@ use borrow.Author.Needs.{needs}
 use borrow.Author.Tests.{not-true, not-false}
 use Rattle.dump.specs.Dump.{couldBeHex, isRaw}
 use Rattle.reading.proofs.Tests.{passes, fails}
-use Rattle.reading.specs.Decimal.{all}
+use Rattle.reading.specs.Words.{all}
 use denote.Ref.{now}
 use lib.ListN.{length, drop, getD, drop-of-length-le}
 use Prim.Native.Nat.{_+_, _-_, _≤_, _<_}

@@ -7,7 +7,7 @@ use Prim.Native.Nat.{_+_, _*_, _-_, _≤_, _<_}
 use native.Mathlib.Omega.{arith}
 use denote.Ref.{now}
 use lib.ListN.{length, take, drop, set, length-set, drop-of-length-le}
-use Rattle.reading.proofs.Pairs.{stored, behind, whole}
+use Rattle.hex.proofs.Pairs.{stored, behind, whole}
 use Rattle.printing.proofs.Digits.{byte-more, two-each}
 use Rattle.printing.proofs.Appending.{appended}
 use Rattle.printing.specs.Numbers.{hexFrom}
