@@ -44,23 +44,25 @@ no-values NotALink h = refl
 
 returns : tie.Need-returns
 returns c =
-    let p = c .before .before in rw (p .before .before .before .e .given .1) (p .put .ensures)
+    let only = c .before .before in
+    rw (only .before .before .before .e .given .1, only .put .ensures)
 
 returns-2 : tie.Need-returns-2
 returns-2 c =
     let second = c .before .before in
     let first = second .before .before .before .before in
-    rw (first .before .before .before .e2 .given .1) (rw (first .put2 .ensures) at (second .put3 .ensures))
+    rw (first .before .before .before .e2 .given .1, second .put3 .ensures, first .put2 .ensures)
 
 returns-3 : tie.Need-returns-3
 returns-3 c =
-    let p = c .before .before in rw (p .before .before .before .e3 .given .1) (p .put4 .ensures)
+    let only = c .before .before in
+    rw (only .before .before .before .e3 .given .1, only .put4 .ensures)
 
 returns-4 : tie.Need-returns-4
 returns-4 c =
     let second = c .before .before in
     let first = second .before .before .before .before in
-    rw (first .before .before .before .e4 .given .1) (rw (first .put5 .ensures) at (second .put6 .ensures))
+    rw (first .before .before .before .e4 .given .1, second .put6 .ensures, first .put5 .ensures)
 
 returns-5 : tie.Need-returns-5
 returns-5 c = rw (no-values (c .before .before .args .e) (c .match .keys5))

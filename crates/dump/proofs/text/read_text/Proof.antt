@@ -4,7 +4,6 @@ use borrow.Author.Needs.{needs}
 use Rattle.dump.specs.declared.text.State.{State}
 use Rattle.dump.specs.Dump.{leave, textRead}
 use Rattle.dump.specs.declared.text.Read.{Read}
-use Rattle.dump.specs.Dump.{leave, textRead}
 use Rattle.dump.specs.Text.{given, bytesFrom, verdictFrom}
 use Rattle.dump.specs.declared.text.State.the-variants.{Between}
 use Rattle.dump.proofs.Turns as turns
@@ -14,7 +13,6 @@ use lib.ListN.{length, take, drop, drop-of-length-le}
 use Prim.Native.Nat.{ℕ, _+_, _-_, _≤_, _<_}
 use mathlib.Core.List.{List, _++_, append-assoc}
 use mathlib.Core.Path.{_≡_, refl, sym, ap, _∙_}
-use borrow.Author.Tests.{eq-eqb, ne-eqb, le-leb, lt-leb}
 use native.Mathlib.Omega.{arith}
 use Rattle.dump.proofs.text.read_text.Statement.{statement}
 use Rattle.dump.proofs.text.read_text.Tie as tie
@@ -24,6 +22,22 @@ Inv-loop s image bytes₀ n₀ state₀ i₀ bytes n state i = (i ≤ length s) 
 
 abbrev μ-loop : tie.MeasureT-loop
 μ-loop s image bytes₀ n₀ state₀ i₀ bytes n state i = length s - i
+
+-- the numbers of a turn: i characters read, r bytes where there were n, and g more
+grown : {n g r i : ℕ} → r ≡ n + g → g ≤ 1 → n ≤ i → r ≤ i + 1
+grown e h k = omega arith
+
+less : (n g : ℕ) {r : ℕ} → r ≡ n + g → r ≤ 128 → n ≤ 128
+less n g e h = omega arith
+
+fits : {r l : ℕ} → r ≤ 128 → 128 ≡ l → r ≤ l
+fits h e = omega arith
+
+more : {i l : ℕ} → i < l → i + 1 ≤ l
+more h = omega arith
+
+full : {n : ℕ} → n ≡ 128 → n ≤ 128
+full e = omega arith
 
 loop-holds : tie.Need-loop-holds Inv-loop μ-loop
 loop-holds c = (omega arith, omega arith, refl, refl, λ h. refl)
@@ -62,16 +76,16 @@ loop-again c =
     let rest = drop (i + 1) s in
     let verdict = rw (← k .step-at .ensures) at (turns.verdict-more s i (t .loop-test .taken) (l .loop .state) (l .loop .n)) in
     let bytes = rw (← k .step-at .ensures) at (turns.bytes-more s i (t .loop-test .taken) (l .loop .state)) in (
-      omega arith,
-      omega (arith, p .keep .ensures .0, arms.at-most-one read),
+      more (t .loop-test .taken),
+      grown (p .keep .ensures .0) (arms.at-most-one read) (l .loop .inv .1),
       l .loop .inv .2 ∙ sym (p .keep .ensures .1),
       rw (c .next .ensures, p .keep .ensures .0) (sym (arms.goes-on read i _ (m .match .keys3)) ∙ sym verdict ∙ l .loop .inv .3),
       λ h.
-          ap (λ (x : List ℕ). x ++ bytesFrom (c .next .result) rest) (p .keep .ensures .2 (omega arith))
+          ap (λ (x : List ℕ). x ++ bytesFrom (c .next .result) rest) (p .keep .ensures .2 (fits h (l .loop .inv .2)))
           ∙ append-assoc was (given read) (bytesFrom (c .next .result) rest)
           ∙ ap (λ (x : State). was ++ (given read ++ bytesFrom x rest)) (c .next .ensures)
           ∙ ap (λ (x : List ℕ). was ++ x) (sym bytes)
-          ∙ l .loop .inv .4 (omega (arith, p .keep .ensures .0)),
+          ∙ l .loop .inv .4 (less (l .loop .n) (length (given read)) (p .keep .ensures .0) h),
     )
 
 finish-requires : tie.Need-finish-requires Inv-loop μ-loop
@@ -86,7 +100,7 @@ returns-3 c =
     let s = now (a .s) in
     let none = drop-of-length-le s (e .loop-test .left) in
     let verdict = rw none at (l .loop .inv .3) in
-    let all : l .loop .n ≡ 128 → l .loop .bytes ≡ bytesFrom Between s = λ n. sym (turns.filled (l .loop .bytes) (l .loop .n) (n ∙ l .loop .inv .2)) ∙ (rw none at (l .loop .inv .4 (omega arith))) in (
+    let all : l .loop .n ≡ 128 → l .loop .bytes ≡ bytesFrom Between s = λ n. sym (turns.filled (l .loop .bytes) (l .loop .n) (n ∙ l .loop .inv .2)) ∙ (rw none at (l .loop .inv .4 (full n))) in (
       f .finish .ensures .0 ∙ verdict,
       f .finish .ensures .1 ∙ arms.left-alike (l .loop .state) (l .loop .i) (l .loop .n) (l .loop .bytes) (bytesFrom Between s) (now (a .image)) all
           ∙ ap (λ (r : Read). leave r (bytesFrom Between s) (now (a .image))) verdict,
