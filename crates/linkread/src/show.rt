@@ -39,7 +39,7 @@ fn print_ruled_out(board: Board, o: Oscillator, register: u8, value: u8) {
 
 fn print_link_row(name: &[u8], board: Board, l: Link) {
     let mut out = [0u8; 1024];
-    let at = link_rows::put_board_fields(board, 0, &mut out, 0);
+    let at = board_rows::put_board_fields(board, 0, &mut out, 0);
     let n = link_rows::put_link_fields(l, &mut out, at);
     io::write_all(STDOUT_FILENO, name);
     write_part(STDOUT_FILENO, &out, n);
@@ -47,8 +47,8 @@ fn print_link_row(name: &[u8], board: Board, l: Link) {
 
 fn print_ruled_out_row(name: &[u8], board: Board, register: u8, value: u8) {
     let mut out = [0u8; 512];
-    let at = link_rows::put_board_fields(board, 27, &mut out, 0);
-    let n = link_rows::put_ruled_out_fields(register, value, &mut out, at);
+    let at = board_rows::put_board_fields(board, 27, &mut out, 0);
+    let n = board_rows::put_ruled_out_fields(register, value, &mut out, at);
     io::write_all(STDOUT_FILENO, name);
     write_part(STDOUT_FILENO, &out, n);
 }

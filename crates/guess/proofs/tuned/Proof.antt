@@ -7,7 +7,7 @@ use Rattle.guess.proofs.tuned.Statement.{statement}
 use Rattle.guess.proofs.tuned.Tie as tie
 
 returns : tie.Need-returns
-returns c = same-link _ _ refl refl refl refl (c .lowest .ensures) refl refl refl refl refl
+returns c = same-link _ _ refl refl refl refl (search needs) refl refl refl refl refl
 
 pub tuned-spec : {M : Type 1} → statement M
 tuned-spec = tie.close (tie.spec (λ c κs. search needs) returns)

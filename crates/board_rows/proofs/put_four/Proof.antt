@@ -1,10 +1,10 @@
--- `link_rows::put_four` meets its contract: one field behind another.
+-- `board_rows::put_four` meets its contract: one field behind another.
 -- Assumes nothing.
 use borrow.Author.Needs.{needs}
 use Rattle.printing.proofs.Appending.{then, same}
 use native.Mathlib.Omega.{arith}
-use Rattle.link_rows.proofs.put_four.Statement.{statement}
-use Rattle.link_rows.proofs.put_four.Tie as tie
+use Rattle.board_rows.proofs.put_four.Statement.{statement}
+use Rattle.board_rows.proofs.put_four.Tie as tie
 
 returns : tie.Need-returns
 returns c =

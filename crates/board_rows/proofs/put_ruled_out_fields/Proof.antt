@@ -1,10 +1,10 @@
--- `link_rows::put_ruled_out_fields` meets its contract: one text behind another.
+-- `board_rows::put_ruled_out_fields` meets its contract: one text behind another.
 -- Assumes nothing.
 use borrow.Author.Needs.{needs}
 use Rattle.printing.proofs.Appending.{then, same}
 use native.Mathlib.Omega.{arith}
-use Rattle.link_rows.proofs.put_ruled_out_fields.Statement.{statement}
-use Rattle.link_rows.proofs.put_ruled_out_fields.Tie as tie
+use Rattle.board_rows.proofs.put_ruled_out_fields.Statement.{statement}
+use Rattle.board_rows.proofs.put_ruled_out_fields.Tie as tie
 
 returns : tie.Need-returns
 returns c =

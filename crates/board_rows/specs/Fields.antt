@@ -1,0 +1,30 @@
+-- The fields of a row, and those of a board and of the register that rules a link out.
+use mathlib.Core.Bool.{Bool, true, false}
+use mathlib.Core.List.{List, [], _++_}
+use Prim.Native.Nat.{ℕ}
+use Rattle.sheets.specs.declared.Variant.{Variant}
+use Rattle.sheets.specs.declared.Variant.the-variants.{Sx1272, Sx1276}
+use Rattle.registers.specs.declared.board.Board.{Board}
+use Rattle.reading.specs.Words.{ascii}
+use Rattle.numerals.specs.Numbers.{counted, byteText}
+
+abbrev pub field : ℕ → List ℕ
+field n = counted (ascii "\t") n []
+
+abbrev pub fourFields : ℕ → ℕ → ℕ → ℕ → List ℕ
+fourFields a b c d = field a ++ (field b ++ (field c ++ field d))
+
+abbrev pub chip : Variant → ℕ
+chip Sx1272 = 1272
+chip Sx1276 = 1276
+
+abbrev pub bit : Bool → ℕ
+bit true = 1
+bit false = 0
+
+-- the board, and the number that the reader answers
+abbrev pub boardFields : Board → ℕ → List ℕ
+boardFields b answer = fourFields (chip (b .variant)) (bit (b .«tcxo_used»)) (bit (b .«tx_boost»)) answer
+
+abbrev pub ruledOutFields : ℕ → ℕ → List ℕ
+ruledOutFields register value = ascii "\t0x" ++ (byteText register ++ (ascii "\t0x" ++ (byteText value ++ ascii "\n")))
