@@ -1,4 +1,4 @@
-// What a link's settings are refused by, each in one place: what no radio has, and what does not go together.
+// What a link's settings are refused by, each in one place: what a radio has not, and what does not go together.
 ghost use mathlib.Core.Path.{_≡_};
 ghost use Rattle.refusals.specs.Refusals.{spreadingFactorValue, bandwidthValue, bandwidthForFrequency, headerForSpreadingFactor, frequencyRange};
 use params::mod_params::RadioError;
