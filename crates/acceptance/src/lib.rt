@@ -28,7 +28,7 @@ fn link_had(variant: Variant, link: Link) -> Verdict
         link.spreading_factor,
         link.implicit_header,
     );
-    let range = link_refusals::frequency_range(frequency);
+    let range = availability::frequency_range(frequency);
     let band = link_refusals::bandwidth_for_frequency(link.bandwidth, frequency);
     let had = judgements::modulation_had(variant, link.spreading_factor, link.bandwidth);
     had.or(band.or(header.or(range)))

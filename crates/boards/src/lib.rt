@@ -1,13 +1,11 @@
 // Boards by words, as a command line says them: the plain board, and what each word makes of a board.
-mod words;
-
 ghost use mathlib.Core.Path.{_≡_};
 ghost use Rattle.boards.specs.Boards.{board, plain as plainBoard, worded};
-ghost use Rattle.boards.specs.Words.{wordOf};
+ghost use Rattle.board_words.specs.Words.{wordOf};
+use board_words::Word;
+use board_words::board_word;
 use registers::board::Board;
 use sheets::Variant;
-pub use words::Word;
-pub use words::board_word;
 
 pub enum Worded {
     Board(Board),

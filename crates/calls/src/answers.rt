@@ -67,7 +67,7 @@ pub fn modulation(a: ModulationAnswer, used: usize, out: &mut [u8]) -> Told
     requires { ⌜ 230 ≤ length (now out) ⌝ }
     ensures { λ r. ⌜ r .at ≤ 230 ⌝ }
 {
-    let at = settings::put_modulation(a, out, 0);
+    let at = modulation_values::put_modulation(a, out, 0);
     Told { at, used }
 }
 
@@ -75,7 +75,7 @@ pub fn packet(a: PacketAnswer, used: usize, out: &mut [u8]) -> Told
     requires { ⌜ 230 ≤ length (now out) ⌝ }
     ensures { λ r. ⌜ r .at ≤ 230 ⌝ }
 {
-    let at = settings::put_packet(a, out, 0);
+    let at = packet_values::put_packet(a, out, 0);
     Told { at, used }
 }
 

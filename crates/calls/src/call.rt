@@ -138,7 +138,7 @@ pub fn answer(line: &[u8], out: &mut [u8]) -> usize
     ensures { λ r. ⌜ Counts r (now (out .exit)) ⌝ }
 {
     match requests::judged(line) {
-        Flaw::Wrong(f) => outcomes::put_fault(f, out, 0),
+        Flaw::Wrong(f) => request_faults::put_fault(f, out, 0),
         Flaw::Clear => match operation_named(field(line, TAB, 4)) {
             Named::Known(o) => run(o, line, out),
             Named::Unknown => 0,

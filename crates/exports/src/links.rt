@@ -3,13 +3,13 @@ ghost use mathlib.Core.List.{[]};
 ghost use Rattle.operations.specs.Programming.{programLink};
 ghost use Rattle.lora_page.specs.Reading.{readLink};
 ghost use Rattle.results.specs.Results.{Tells};
-ghost use Rattle.telling.specs.Boards.{boardOf};
+ghost use Rattle.board_flags.specs.Boards.{boardOf};
 ghost use Rattle.telling.specs.Exports.{Exported};
 ghost use Rattle.exports.specs.Records.{linkOf};
+use board_flags::board_of;
 use params::mod_params::Link;
 use telling::answers::done;
 use telling::answers::link;
-use telling::boards::board_of;
 use units::Hertz;
 
 // A link of ten numbers.

@@ -2,15 +2,15 @@
 ghost use mathlib.Core.List.{[]};
 ghost use Rattle.operations.specs.Modem.{createModulation, createPacket, setModulation, setPacket};
 ghost use Rattle.results.specs.Results.{Tells};
-ghost use Rattle.telling.specs.Boards.{boardOf};
+ghost use Rattle.board_flags.specs.Boards.{boardOf};
 ghost use Rattle.telling.specs.Exports.{Exported};
 ghost use Rattle.exports.specs.Records.{modulationOf, packetOf};
+use board_flags::board_of;
 use params::mod_params::ModulationParams;
 use params::mod_params::PacketParams;
 use telling::answers::done;
 use telling::answers::modulation;
 use telling::answers::packet;
-use telling::boards::board_of;
 use units::Hertz;
 
 // Values: spreading factor, bandwidth, coding rate, optimize, hertz.

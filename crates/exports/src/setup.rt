@@ -2,10 +2,10 @@
 ghost use mathlib.Core.List.{[]};
 ghost use Rattle.operations.specs.Setup.{initLora, setBases, setChannel};
 ghost use Rattle.operations.specs.Power.{setPower};
-ghost use Rattle.telling.specs.Boards.{boardOf};
+ghost use Rattle.board_flags.specs.Boards.{boardOf};
 ghost use Rattle.telling.specs.Exports.{Exported};
+use board_flags::board_of;
 use telling::answers::done;
-use telling::boards::board_of;
 
 // `public_network` 1 or 0.
 #[no_mangle]

@@ -3,14 +3,14 @@ ghost use mathlib.Core.Path.{_≡_};
 ghost use mathlib.Core.List.{[]};
 ghost use Prim.Native.Nat.{_+_, _*_, _≤_, _<_};
 ghost use lib.ListN.{length};
-ghost use Rattle.sheets.specs.Modem.{invertIq, invertIq2};
 ghost use Rattle.params.specs.Answers.{tellsDone, usedDone};
 ghost use Rattle.log.specs.Steps.{Done};
 ghost use Rattle.admit.specs.Call.{Meets};
-ghost use Rattle.operations.specs.Modem.{preamble, framing, inversion, packetRefusal, packetSteps, setPacket};
+ghost use Rattle.operations.specs.Modem.{preamble, framing, packetRefusal, packetSteps, setPacket};
 ghost use Rattle.operations.proofs.Counts.{framingRecords, packetRecords};
 use admit::admit;
 use bus::write_register;
+use inversion::write_inversion;
 use params::answers::Answer;
 use params::mod_params::PacketParams;
 use params::mod_params::Verdict;
@@ -25,34 +25,6 @@ fn write_preamble(image: &mut [u8], log: &mut [u8], at: usize, preamble_length: 
     let lsb = (preamble_length % 256) as u8;
     let at = write_register(image, log, at, Register::RegPreambleMsb, msb);
     write_register(image, log, at, Register::RegPreambleLsb, lsb)
-}
-
-fn invert_iq(iq_inverted: u8) -> u8
-    ensures { λ r. ⌜ r ≡ invertIq «iq_inverted» ⌝ }
-{
-    match iq_inverted {
-        0 => 0x27,
-        _ => 0x66,
-    }
-}
-
-fn invert_iq2(iq_inverted: u8) -> u8
-    ensures { λ r. ⌜ r ≡ invertIq2 «iq_inverted» ⌝ }
-{
-    match iq_inverted {
-        0 => 0x1d,
-        _ => 0x19,
-    }
-}
-
-fn write_inversion(image: &mut [u8], log: &mut [u8], at: usize, iq_inverted: u8) -> usize
-    requires { ⌜ (at + 6 ≤ length (now log)) × (length (now image) ≡ 128) ⌝ }
-    ensures { λ r. ⌜ Done (inversion «iq_inverted») (now (image .entry)) (now (log .entry)) at r (now (image .exit)) (now (log .exit)) ⌝ }
-{
-    let iq1 = invert_iq(iq_inverted);
-    let iq2 = invert_iq2(iq_inverted);
-    let at = write_register(image, log, at, Register::RegInvertiq, iq1);
-    write_register(image, log, at, Register::RegInvertiq2, iq2)
 }
 
 fn packet_records(variant: Variant) -> usize

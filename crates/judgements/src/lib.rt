@@ -19,8 +19,8 @@ pub fn modulation_named(spreading_factor: u8, bandwidth: u8, coding_rate: u8) ->
 pub fn modulation_had(variant: Variant, spreading_factor: u8, bandwidth: u8) -> Verdict
     ensures { λ r. ⌜ r ≡ modulationHad variant «spreading_factor» bandwidth ⌝ }
 {
-    let value = link_refusals::bandwidth_value(variant, bandwidth);
-    link_refusals::spreading_factor_value(spreading_factor).or(value)
+    let value = availability::bandwidth_value(variant, bandwidth);
+    availability::spreading_factor_value(spreading_factor).or(value)
 }
 
 // 8 for each flag of a packet.

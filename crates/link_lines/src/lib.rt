@@ -1,45 +1,22 @@
 // A link as a person wants it: a line for each setting.
 ghost use mathlib.Core.Path.{_≡_};
 ghost use mathlib.Core.List.{_++_};
-ghost use Prim.Native.Nat.{_+_, _≤_, _<_, _^_};
+ghost use Prim.Native.Nat.{_+_, _≤_};
 ghost use lib.ListN.{length};
-ghost use Rattle.sheets.specs.Frequency.{steps, frfMsb, frfMid, frfLsb};
 ghost use Rattle.reading.specs.Words.{ascii};
 ghost use Rattle.printing.specs.Text.{Appended};
-ghost use Rattle.frequencies.specs.Frequencies.{megahertz};
-ghost use Rattle.numerals.specs.Numbers.{counted, bytesText};
-ghost use Rattle.link_lines.specs.Lines.{syncLine, stepText, frequencyLine, bandwidthLine, modemLines, packetLines, powerLine, pinLine, linkLines};
+ghost use Rattle.numerals.specs.Numbers.{counted};
+ghost use Rattle.frequency_lines.specs.Lines.{frequencyLine};
+ghost use Rattle.link_lines.specs.Lines.{syncLine, bandwidthLine, modemLines, packetLines, linkLines};
 use frequencies::hertz_of;
 use frequencies::put_kilohertz;
-use frequencies::put_megahertz;
-use numerals::put_bytes;
+use frequency_lines::put_frequency;
 use numerals::put_choice;
 use numerals::put_counted;
 use params::mod_params::Link;
+use power_lines::put_pin;
+use power_lines::put_power;
 use printing::put;
-use printing::put_signed;
-use units::Hertz;
-
-fn put_step(hz: Hertz, out: &mut [u8], at: usize) -> usize
-    requires { ⌜ at + 70 ≤ length (now out) ⌝ }
-    ensures { λ r. ⌜ Appended (stepText (hz .0)) at (now (out .entry)) r (now (out .exit)) ⌝ }
-    ensures { λ r. ⌜ r ≤ at + 70 ⌝ }
-{
-    let count = hz.steps();
-    let at = put_counted(b" MHz (step ", count.0 as u64, b", registers ", out, at);
-    let at = put_bytes(count.frf_msb(), count.frf_mid(), count.frf_lsb(), out, at);
-    put(b")\n", out, at)
-}
-
-fn put_frequency(hz: Hertz, out: &mut [u8], at: usize) -> usize
-    requires { ⌜ at + 120 ≤ length (now out) ⌝ }
-    ensures { λ r. ⌜ Appended (frequencyLine (hz .0)) at (now (out .entry)) r (now (out .exit)) ⌝ }
-    ensures { λ r. ⌜ r ≤ at + 120 ⌝ }
-{
-    let at = put(b"frequency         ", out, at);
-    let at = put_megahertz(hz.0, out, at);
-    put_step(hz, out, at)
-}
 
 fn put_bandwidth(bw: u8, out: &mut [u8], at: usize) -> usize
     requires { ⌜ at + 60 ≤ length (now out) ⌝ }
@@ -103,35 +80,6 @@ fn put_packet(l: Link, out: &mut [u8], at: usize) -> usize
         b"preamble          ",
         l.preamble_length as u64,
         b" symbols\n",
-        out,
-        at,
-    )
-}
-
-fn put_power(power: i32, out: &mut [u8], at: usize) -> usize
-    requires { ⌜ at + 50 ≤ length (now out) ⌝ }
-    ensures { λ r. ⌜ Appended (powerLine power) at (now (out .entry)) r (now (out .exit)) ⌝ }
-    ensures { λ r. ⌜ r ≤ at + 50 ⌝ }
-{
-    let at = put(b"power             ", out, at);
-    let at = put_signed(power, out, at);
-    put(b" dBm\n", out, at)
-}
-
-// Below 0 dBm the Rust sets PaSelect on a board without boost.
-fn put_pin(boost: bool, pa_config: u8, out: &mut [u8], at: usize) -> usize
-    requires { ⌜ at + 90 ≤ length (now out) ⌝ }
-    ensures { λ r. ⌜ Appended (pinLine boost «pa_config») at (now (out .entry)) r (now (out .exit)) ⌝ }
-    ensures { λ r. ⌜ r ≤ at + 90 ⌝ }
-{
-    if pa_config < 128 {
-        return put(b"output pin        RFO\n", out, at);
-    }
-    if boost {
-        return put(b"output pin        PA_BOOST\n", out, at);
-    }
-    put(
-        b"output pin        PA_BOOST by the register, though the board has no boost\n",
         out,
         at,
     )

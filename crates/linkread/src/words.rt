@@ -1,6 +1,6 @@
 // What the command line asks: a board, a form, files.
-use boards::Word;
-use boards::board_word;
+use board_words::Word;
+use board_words::board_word;
 use libc::STDERR_FILENO;
 use reading::same;
 

@@ -14,10 +14,10 @@ use Rattle.commands.specs.declared.Named.the-variants.{Known, Unknown}
 use Rattle.commands.specs.Operations.{kinds}
 use Rattle.arguments.specs.Arguments.{misfitFrom}
 use Rattle.shorthand.specs.Shorthand.{commandOf}
-use Rattle.orders.specs.declared.judge.Expected.{Expected}
-use Rattle.orders.specs.declared.judge.Expected.the-variants.{Command, Number, Bytes, Nothing}
-use Rattle.orders.specs.declared.judge.Flaw.{Flaw}
-use Rattle.orders.specs.declared.judge.Flaw.the-variants.{Clear, Wrong}
+use Rattle.orders.specs.declared.Expected.{Expected}
+use Rattle.orders.specs.declared.Expected.the-variants.{Command, Number, Bytes, Nothing}
+use Rattle.orders.specs.declared.Flaw.{Flaw}
+use Rattle.orders.specs.declared.Flaw.the-variants.{Clear, Wrong}
 
 -- 1 to 1,024 bytes, all in one case of letters, or a dash for none
 abbrev pub isBytes : List ℕ → Bool

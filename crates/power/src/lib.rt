@@ -3,22 +3,19 @@ ghost use mathlib.Core.Path.{_≡_};
 ghost use mathlib.Core.List.{[]};
 ghost use Prim.Native.Nat.{_+_, _*_, _≤_, _<_};
 ghost use lib.ListN.{length};
-ghost use Rattle.sheets.specs.Power.{paRamp};
 ghost use Rattle.params.specs.Answers.{tellsDone, usedDone};
-ghost use Rattle.values.specs.Values as value;
 ghost use Rattle.log.specs.Steps.{Done};
 ghost use Rattle.admit.specs.Call.{Meets};
-ghost use Rattle.operations.specs.Power.{amplifier, rampCode, power, setPower};
+ghost use Rattle.operations.specs.Power.{amplifier, power, setPower};
 ghost use Rattle.operations.proofs.Counts.{powerRecords};
 use admit::admit;
 use bus::write_register;
 use params::answers::Answer;
 use params::mod_params::Verdict;
+use ramps::ramp_value;
 use registers::board::Board;
 use registers::radio_kind_params::Register;
 use sheets::Variant;
-use values::RampTime;
-use variants::ramp_bit;
 
 fn set_tx_power(
     image: &mut [u8],
@@ -35,23 +32,6 @@ fn set_tx_power(
         Variant::Sx1272 => sx1272::set_tx_power(image, log, at, p_out, tx_boost),
         Variant::Sx1276 => sx1276::set_tx_power(image, log, at, p_out, tx_boost),
     }
-}
-
-// Fast before a transmission, slow when a link is programmed.
-fn ramp_time(is_tx_prep: u8) -> RampTime
-    ensures { λ r. ⌜ value.rampCode r ≡ rampCode «is_tx_prep» ⌝ }
-{
-    match is_tx_prep {
-        0 => RampTime::Ramp250Us,
-        _ => RampTime::Ramp40Us,
-    }
-}
-
-fn ramp_value(variant: Variant, is_tx_prep: u8) -> u8
-    ensures { λ r. ⌜ r ≡ paRamp variant (rampCode «is_tx_prep») ⌝ }
-{
-    let ramp_time = ramp_time(is_tx_prep);
-    ramp_bit(variant) + ramp_time.value()
 }
 
 pub fn write_power(

@@ -1,50 +1,42 @@
--- Numbers as text: the digits that `io` spells are the fewest that say a number; signs; digits of bytes.
+-- Numbers as text: one digit more of a decimal number; signs; digits of bytes.
 -- Assumes nothing.
 use mathlib.Core.Path.{_≡_, refl, sym, ap, _∙_}
-use mathlib.Core.List.{List, [], _∷_, _++_}
+use mathlib.Core.List.{List, [], _∷_, _++_, append-assoc}
 use Prim.Native.Nat.{ℕ, zero, suc, _+_, _*_, _-_, _/_, _%_, _^_, _≤_, _<_}
-use native.Mathlib.Nat.{pow-suc, one-le-pow, pow-le-pow-right}
-use lib.Dec.{leb, lit<}
+use native.Mathlib.Nat.{pow-suc}
 use native.Mathlib.Omega.{arith}
-use borrow.Author.Tests.{lt-ltb, le-ltb, ltb-true, leb-true, leb-false}
+use borrow.Author.Tests.{lt-ltb, le-ltb, ltb-true}
 use mathlib.Core.Bool.{Bool, true, false}
 use native.Mathlib.Numerals.{add-one}
 use lib.IntN.{ℤ, pos, negsuc, natAbs}
-use lib.ListN.{length, drop, getD}
-use lib.Seq.{drop-cons}
+use lib.ListN.{length, drop, getD, set, length-set}
+use lib.Seq.{drop-cons, getD-set-same, drop-set-lt}
 use lib.Signed.{ltZ}
-use Rattle.io.specs.Digits.{digits, Fewest}
 use Rattle.printing.specs.Numbers.{decimalFrom, decimal, signed, hexDigit, hexFrom}
 
-pub spelled : (k f n : ℕ) → Fewest 10 1 n k → k ≤ f → digits 10 k n ≡ decimalFrom f n
-spelled zero f n p h = absurd (omega arith)
-spelled (suc zero) zero n p h = absurd (omega arith)
-spelled (suc zero) (suc f) n p h =
-    let l : n < 10 = p .1 in
-    let m : n % 10 ≡ n = omega arith in
-    rw (m, lt-ltb n 10 l)
-spelled (suc (suc k)) zero n p h = absurd (omega arith)
-spelled (suc (suc k)) (suc f) n p h =
-    let d : n % 10 < 10 = omega arith in
-    let q : n < 10 ^ suc k * 10 = rw (pow-suc 10 (suc k)) at (p .1) in
-    let z : suc (suc k) - 1 ≡ suc k = omega arith in
-    let e : 10 ^ suc k ≤ n = rw z at (p .2 (omega arith)) in
-    let g = pow-suc 10 k in
-    let o : 1 ≤ 10 ^ k = one-le-pow k 10 (lit< tt) in
-    let y : suc k - 1 ≡ k = omega arith in
-    let i = spelled (suc k) f (n / 10) (omega arith, omega arith, (λ _. rw y (omega arith))) (omega arith) in
-    rw (le-ltb n 10 (omega arith), lt-ltb (n % 10) 10 d, ← i)
+-- ---- decimal digits, from the last one on
 
--- 20 digits are enough for 64 bits
-by-count : (k n : ℕ) (t : Bool) → leb k 20 ≡ t → Fewest 10 1 n k → n < 18446744073709551616 → k ≤ 20
-by-count k n true e p h = leb-true k 20 e
-by-count k n false e p h =
-    let l = leb-false k 20 e in
-    let g : 100000000000000000000 ≤ 10 ^ (k - 1) = pow-le-pow-right {n = 10} (lit< tt) {i = 20} {j = k - 1} (omega arith) in
-    absurd (omega (arith, p .2 (omega arith)))
+-- a byte stored is the first of what stands from its place on
+here : (p : List ℕ) (f x : ℕ) → f < length p → drop f (set p f x) ≡ x ∷ drop (suc f) p
+here p f x h = rw (drop-cons (set p f x) f 0 (simp length-set h), getD-set-same, drop-set-lt (suc f) p f x (omega arith))
 
-pub few : (k n : ℕ) → Fewest 10 1 n k → n < 18446744073709551616 → k ≤ 20
-few k n = by-count k n (leb k 20) refl
+-- the digits that are left to spell, and those that stand from `from` on
+abbrev pub spelling : ℕ → ℕ → List ℕ → List ℕ
+spelling from rest place = decimalFrom from rest ++ drop from place
+
+-- one digit more
+pub digit-more : (f n : ℕ) (p : List ℕ) → 9 < n → f < length p → spelling f (n / 10) (set p f (48 + n % 10)) ≡ spelling (suc f) n p
+digit-more f n p h l =
+    rw (le-ltb n 10 (omega arith), here p f (48 + n % 10) l, append-assoc)
+
+-- the first digit
+pub digit-last : (f n : ℕ) (p : List ℕ) → n < 10 → f < length p → drop f (set p f (48 + n)) ≡ spelling (suc f) n p
+digit-last f n p h l = rw (lt-ltb n 10 h, here p f (48 + n) l)
+
+-- what is left has its places
+pub fewer : (f n : ℕ) → 9 < n → n < 10 ^ suc f → (1 ≤ f) × (n / 10 < 10 ^ f)
+fewer zero n h l = absurd (omega arith)
+fewer (suc f) n h l = let q : n < 10 ^ suc f * 10 = rw (pow-suc 10 (suc f)) at l in (omega arith, omega arith)
 
 -- ---- a sign in front
 

@@ -138,7 +138,7 @@ pub fn modulation(a: ModulationAnswer, out: &mut [u8]) -> usize
     match a {
         ModulationAnswer::Created(_) => {
             let at = put(b"=\t", out, 0);
-            let at = settings::put_modulation(a, out, at);
+            let at = modulation_values::put_modulation(a, out, at);
             ended(out, at)
         }
         ModulationAnswer::Refused(e) => put_refused(e, out, 0),
@@ -152,7 +152,7 @@ pub fn framing(a: PacketAnswer, out: &mut [u8]) -> usize
     match a {
         PacketAnswer::Created(_) => {
             let at = put(b"=\t", out, 0);
-            let at = settings::put_packet(a, out, at);
+            let at = packet_values::put_packet(a, out, at);
             ended(out, at)
         }
         PacketAnswer::Refused(e) => put_refused(e, out, 0),

@@ -6,9 +6,9 @@ use intake::read_all;
 use libc::STDERR_FILENO;
 use libc::STDIN_FILENO;
 use libc::STDOUT_FILENO;
+use order_faults::put_wrong;
 use orders::Flaw;
 use orders::judged;
-use orders::put_wrong;
 use registers::board::Board;
 
 fn write(text: &[u8]) -> bool {

@@ -3,7 +3,7 @@ mod answers;
 mod command;
 mod lines;
 
-use boards::Word;
+use board_words::Word;
 use boards::Worded;
 use libc::STDERR_FILENO;
 use libc::STDOUT_FILENO;
@@ -68,7 +68,7 @@ fn wrong(what: &[u8], text: &[u8]) -> Asked {
 }
 
 fn names_chip(word: &[u8]) -> bool {
-    match boards::board_word(word) {
+    match board_words::board_word(word) {
         Word::Sx1272 => true,
         Word::Sx1276 => true,
         _ => false,

@@ -1,15 +1,11 @@
 -- What a C caller is told of an answer: its number, and in the results that he lends the bytes used and the values.
 use mathlib.Core.Path.{_≡_}
 use mathlib.Core.List.{List, [], _∷_}
-use Prim.Native.Nat.{ℕ, suc, _+_, _-_, _^_}
+use Prim.Native.Nat.{ℕ, _+_}
 use lib.ListN.{set}
-use lib.IntN.{ℤ, pos, negsuc}
+use lib.IntN.{ℤ, pos}
 use Rattle.params.specs.Errors.{Told}
-
--- a value as a word of 64 bits: two's complement
-abbrev pub word : ℤ → ℕ
-word (pos n) = n
-word (negsuc n) = 2 ^ 64 - suc n
+use Rattle.result_words.specs.Word.{word}
 
 abbrev pub words : List ℤ → List ℕ
 words [] = []

@@ -1,38 +1,11 @@
 // Results: the bytes used, then an answer's values, each a word of 64 bits, as many as there are places for.
 ghost use mathlib.Core.Path.{_≡_};
 ghost use mathlib.Core.List.{[], _∷_};
-ghost use lib.ListN.{set};
 ghost use lib.IntN.{pos};
 ghost use Rattle.params.specs.Errors.{valuesOf, refusal};
-ghost use Rattle.results.specs.Results.{word, words, placed, Tells};
+ghost use Rattle.results.specs.Results.{words, placed, Tells};
 use params::mod_params::RadioError;
-
-// Two's complement: a cast that lost the sign would be undefined.
-pub fn word(value: i32) -> u64
-    ensures { λ r. ⌜ r ≡ word value ⌝ }
-{
-    if value < 0 {
-        let below = -1 - value;
-        0xffff_ffff_ffff_ffff - below as u64
-    } else {
-        value as u64
-    }
-}
-
-pub fn word_16(value: i16) -> u64
-    ensures { λ r. ⌜ r ≡ word value ⌝ }
-{
-    word(value as i32)
-}
-
-// A value beyond the last place is dropped.
-pub fn put(results: &mut [u64], place: usize, value: u64)
-    ensures { λ _. ⌜ now (results .exit) ≡ set (now (results .entry)) place value ⌝ }
-{
-    if place < results.len() {
-        results[place] = value;
-    }
-}
+use result_words::put;
 
 fn put_values(results: &mut [u64], e: RadioError)
     ensures { λ _. ⌜ now (results .exit) ≡ placed 1 (words (valuesOf e)) (now (results .entry)) ⌝ }

@@ -3,21 +3,17 @@ ghost use mathlib.Core.Path.{_≡_};
 ghost use Prim.Native.Nat.{_+_, _≤_};
 ghost use lib.ListN.{length};
 ghost use Rattle.sheets.specs.Modem.{bandwidthCode};
-ghost use Rattle.sheets.specs.Power.{clamped, paConfig};
 ghost use Rattle.log.specs.Steps.{Done};
-ghost use Rattle.levels.specs.Ranges.{InRange};
 ghost use Rattle.operations.specs.Modem.{modem, framing};
 ghost use Rattle.operations.specs.Power.{amplifier};
 use bus::modify_register;
 use bus::write_register;
-use levels::clamp;
-use levels::level;
 use levels::pa_dac;
+use outputs::sx1272::clamped_power;
+use outputs::sx1272::pa_config;
 use registers::radio_kind_params::Register;
 use sheets::Variant;
 use variants::Sx1272;
-
-const PA_BOOST: u8 = 0x80;
 
 // The optimize flag stands in RegModemConfig1 here, beside bandwidth and coding rate: one access writes the three.
 pub fn set_modulation_params(
@@ -53,32 +49,6 @@ pub fn set_packet_params(
 {
     let config_1 = implicit_header * 4 + crc_on * 2;
     modify_register(image, log, at, Register::RegModemConfig1, 0xf9, config_1)
-}
-
-// In dBm: PA_BOOST has 2 to 20, RFO -1 to 14.
-pub fn clamped_power(p_out: i32, tx_boost: bool) -> i32
-    ensures { λ r. ⌜ r ≡ clamped Variant.Sx1272 «tx_boost» «p_out» ⌝ }
-{
-    if tx_boost {
-        clamp(p_out, 2, 20)
-    } else {
-        clamp(p_out, -1, 14)
-    }
-}
-
-// The +20 dBm setting adds 3 dB, so its powers count from 5 dBm.
-pub fn pa_config(txp: i32, tx_boost: bool) -> u8
-    requires { ⌜ InRange Variant.Sx1272 «tx_boost» txp ⌝ }
-    ensures { λ r. ⌜ r ≡ paConfig Variant.Sx1272 «tx_boost» txp ⌝ }
-{
-    if tx_boost {
-        match txp {
-            18..=20 => PA_BOOST | level(txp, 5, 20),
-            _ => PA_BOOST | level(txp, 2, 17),
-        }
-    } else {
-        level(txp, -1, 14)
-    }
 }
 
 // The Rust leaves the over current protection alone on this variant.

@@ -3,30 +3,20 @@ ghost use mathlib.Core.Path.{_≡_};
 ghost use Prim.Native.Nat.{_+_, _≤_};
 ghost use lib.ListN.{length};
 ghost use Rattle.sheets.specs.Modem.{bandwidthCode};
-ghost use Rattle.sheets.specs.Power.{clamped, ocp, paConfig};
 ghost use Rattle.log.specs.Steps.{Done};
-ghost use Rattle.levels.specs.Ranges.{InRange};
 ghost use Rattle.operations.specs.Modem.{modem, framing};
 ghost use Rattle.operations.specs.Power.{amplifier};
 ghost use Rattle.operations.specs.Modes.{carrierTest};
 use bus::modify_register;
 use bus::write_register;
-use levels::clamp;
-use levels::level;
 use levels::pa_dac;
+use outputs::sx1276::clamped_power;
+use outputs::sx1276::ocp;
+use outputs::sx1276::pa_config;
 use pins::enable_rf_switch_rx;
 use registers::radio_kind_params::Register;
 use sheets::Variant;
 use variants::Sx1276;
-
-// With over current protection on.
-const OCP_TRIM_240MA: u8 = 0x3b;
-
-const OCP_TRIM_100MA: u8 = 0x2b;
-
-const PA_BOOST: u8 = 0x80;
-
-const MAX_POWER7_NO_PA_BOOST: u8 = 0x70;
 
 // A field at a time, as the Rust does it; the optimize flag with AgcAutoOn cleared.
 pub fn set_modulation_params(
@@ -74,47 +64,6 @@ pub fn set_packet_params(
     );
     let crc_bit = crc_on * 4;
     modify_register(image, log, at, Register::RegModemConfig2, 0xfb, crc_bit)
-}
-
-// In dBm: PA_BOOST has 2 to 20, RFO -4 to 14.
-fn clamped_power(p_out: i32, tx_boost: bool) -> i32
-    ensures { λ r. ⌜ r ≡ clamped Variant.Sx1276 «tx_boost» «p_out» ⌝ }
-{
-    if tx_boost {
-        clamp(p_out, 2, 20)
-    } else {
-        clamp(p_out, -4, 14)
-    }
-}
-
-fn ocp(txp: i32, tx_boost: bool) -> u8
-    requires { ⌜ InRange Variant.Sx1276 «tx_boost» txp ⌝ }
-    ensures { λ r. ⌜ r ≡ ocp «tx_boost» txp ⌝ }
-{
-    if tx_boost {
-        match txp {
-            18..=20 => OCP_TRIM_240MA,
-            _ => OCP_TRIM_100MA,
-        }
-    } else {
-        OCP_TRIM_100MA
-    }
-}
-
-// The Rust's way: from 18 dBm on the level spills out of the four power bits, and below 0 dBm the bits of a negative byte,
-// 0xfc for -4, set PaSelect too.
-fn pa_config(txp: i32, tx_boost: bool) -> u8
-    requires { ⌜ InRange Variant.Sx1276 «tx_boost» txp ⌝ }
-    ensures { λ r. ⌜ r ≡ paConfig Variant.Sx1276 «tx_boost» txp ⌝ }
-{
-    if tx_boost {
-        PA_BOOST | level(txp, 2, 20)
-    } else {
-        match txp {
-            -4..=-1 => 0xfc | level(txp, -4, -1),
-            _ => MAX_POWER7_NO_PA_BOOST | level(txp, 0, 14),
-        }
-    }
 }
 
 pub fn set_tx_power(

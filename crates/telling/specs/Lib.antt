@@ -1,2 +1,1 @@
-pub mod Boards
 pub mod Exports

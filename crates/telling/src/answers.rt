@@ -2,7 +2,8 @@
 ghost use mathlib.Core.Path.{_≡_};
 ghost use lib.IntN.{pos};
 ghost use Rattle.params.specs.Answers.{tellsDone, usedDone, tellsPayload, usedPayload, tellsStatus, usedStatus, tellsIrq, usedIrq, tellsModulation, tellsPacket, tellsLink, flagValue};
-ghost use Rattle.results.specs.Results.{word, Tells};
+ghost use Rattle.result_words.specs.Word.{word};
+ghost use Rattle.results.specs.Results.{Tells};
 use params::answers::Answer;
 use params::answers::IrqAnswer;
 use params::answers::LinkAnswer;
@@ -10,14 +11,14 @@ use params::answers::ModulationAnswer;
 use params::answers::PacketAnswer;
 use params::answers::PayloadAnswer;
 use params::answers::StatusAnswer;
-use results::put;
+use result_words::put;
+use result_words::word;
+use result_words::word_16;
 use results::put_five;
 use results::put_five_more;
 use results::put_one;
 use results::put_two;
 use results::refused;
-use results::word;
-use results::word_16;
 
 pub fn done(results: &mut [u64], answer: Answer) -> u8
     ensures { λ r. ⌜ Tells (tellsDone answer) (usedDone answer) (now (results .entry)) (pos r) (now (results .exit)) ⌝ }

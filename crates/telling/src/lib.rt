@@ -1,3 +1,2 @@
-// Answers and boards for callers in C: numbers, and results that they lend.
+// Answers for callers in C: a number, and the results that they lend.
 pub mod answers;
-pub mod boards;

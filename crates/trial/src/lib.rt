@@ -7,9 +7,9 @@ ghost use Rattle.sheets.specs.Reader.{readerOrder};
 ghost use Rattle.refusals.specs.Refusals.{linkRefusal};
 ghost use Rattle.trial.specs.Tests.{registers, alike, keeps, fitsSoFar};
 use acceptance::link_refusal;
+use link_writes::write_link;
 use params::mod_params::Link;
 use params::mod_params::Verdict;
-use programming::write_link;
 use registers::board::Board;
 use sheets::Variant;
 

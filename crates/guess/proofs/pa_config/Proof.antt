@@ -5,7 +5,7 @@ use mathlib.Core.Path.{_≡_, refl, sym, ap, _∙_}
 use native.Mathlib.Omega.{arith}
 use lib.IntN.{ℤ}
 use Rattle.lora_page.specs.Lora.{powered}
-use Rattle.guess.proofs.Bytes.{shown-held}
+use Rattle.shown.proofs.Bytes.{shown-held}
 use Rattle.guess.proofs.pa_config.Statement.{statement}
 use Rattle.guess.proofs.pa_config.Tie as tie
 

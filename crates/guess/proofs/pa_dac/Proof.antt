@@ -11,7 +11,7 @@ use Rattle.sheets.specs.Power.{clamped}
 use Rattle.levels.proofs.Whole.{held}
 use Rattle.levels.proofs.Clamped.{in-range, config-of}
 use Rattle.lora_page.specs.Lora.{powered}
-use Rattle.guess.proofs.Bytes.{with-held}
+use Rattle.shown.proofs.Bytes.{with-held}
 use Rattle.guess.proofs.pa_dac.Statement.{statement}
 use Rattle.guess.proofs.pa_dac.Tie as tie
 

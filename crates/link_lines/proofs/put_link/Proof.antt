@@ -1,7 +1,8 @@
 -- `link_lines::put_link` meets its contract: one line behind another.
 -- Assumes nothing.
 use borrow.Author.Needs.{needs}
-use Rattle.link_lines.specs.Lines.{powerLine, linkLines}
+use Rattle.power_lines.specs.Lines.{powerLine}
+use Rattle.link_lines.specs.Lines.{linkLines}
 use lib.Signed.{mag}
 use lib.IntN.{ℤ}
 use Prim.Native.Nat.{_<_}

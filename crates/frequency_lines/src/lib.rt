@@ -1,0 +1,36 @@
+// The line of a link's frequency: in MHz, and as a count of steps with the bytes of RegFrf.
+ghost use mathlib.Core.List.{_++_};
+ghost use Prim.Native.Nat.{_+_, _≤_, _<_, _^_};
+ghost use lib.ListN.{length};
+ghost use Rattle.sheets.specs.Frequency.{steps, frfMsb, frfMid, frfLsb};
+ghost use Rattle.reading.specs.Words.{ascii};
+ghost use Rattle.printing.specs.Text.{Appended};
+ghost use Rattle.frequencies.specs.Frequencies.{megahertz};
+ghost use Rattle.numerals.specs.Numbers.{counted, bytesText};
+ghost use Rattle.frequency_lines.specs.Lines.{stepText, frequencyLine};
+use frequencies::put_megahertz;
+use numerals::put_bytes;
+use numerals::put_counted;
+use printing::put;
+use units::Hertz;
+
+fn put_step(hz: Hertz, out: &mut [u8], at: usize) -> usize
+    requires { ⌜ at + 70 ≤ length (now out) ⌝ }
+    ensures { λ r. ⌜ Appended (stepText (hz .0)) at (now (out .entry)) r (now (out .exit)) ⌝ }
+    ensures { λ r. ⌜ r ≤ at + 70 ⌝ }
+{
+    let count = hz.steps();
+    let at = put_counted(b" MHz (step ", count.0 as u64, b", registers ", out, at);
+    let at = put_bytes(count.frf_msb(), count.frf_mid(), count.frf_lsb(), out, at);
+    put(b")\n", out, at)
+}
+
+pub fn put_frequency(hz: Hertz, out: &mut [u8], at: usize) -> usize
+    requires { ⌜ at + 120 ≤ length (now out) ⌝ }
+    ensures { λ r. ⌜ Appended (frequencyLine (hz .0)) at (now (out .entry)) r (now (out .exit)) ⌝ }
+    ensures { λ r. ⌜ r ≤ at + 120 ⌝ }
+{
+    let at = put(b"frequency         ", out, at);
+    let at = put_megahertz(hz.0, out, at);
+    put_step(hz, out, at)
+}

@@ -1,0 +1,31 @@
+-- `orders::numbers_flaw` meets its contract: the test is the definition's.
+-- Assumes nothing.
+use borrow.Author.Needs.{needs}
+use Rattle.orders.specs.Orders.{numbersFlaw}
+use borrow.Author.Tests.{lt-ltb, le-ltb}
+use Rattle.orders.proofs.numbers_flaw.Statement.{statement}
+use Rattle.orders.proofs.numbers_flaw.Tie as tie
+
+returns : tie.Need-returns
+unfolding numbersFlaw
+returns c =
+    let i = c .before in
+    rw (← i .before .before .misfit .ensures .0, ← i .before .argument-count .ensures .0, lt-ltb _ _ (i .if1 .taken), c .argument-most .ensures)
+
+returns-2 : tie.Need-returns-2
+unfolding numbersFlaw
+returns-2 c =
+    let i = c .before in
+    rw (← i .before .before .misfit .ensures .0, ← i .before .argument-count .ensures .0, le-ltb _ _ (i .if1 .left)) (c .surplus-flaw .ensures)
+
+pub numbers-flaw-spec : {M : Type 1} → statement M
+numbers-flaw-spec =
+    tie.close
+    (tie.spec
+    (λ c κs. search needs)
+    (λ c κs. search needs)
+    (λ c. search needs)
+    (λ c κs. search needs)
+    (λ c κs. search needs)
+    returns
+    returns-2)

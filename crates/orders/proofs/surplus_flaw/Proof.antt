@@ -1,0 +1,18 @@
+-- `orders::surplus_flaw` meets its contract: the test is the definition's.
+-- Assumes nothing.
+use borrow.Author.Needs.{needs}
+use Rattle.orders.specs.Orders.{surplusFlaw}
+use borrow.Author.Tests.{lt-leb, le-leb}
+use Rattle.orders.proofs.surplus_flaw.Statement.{statement}
+use Rattle.orders.proofs.surplus_flaw.Tie as tie
+
+returns : tie.Need-returns
+unfolding surplusFlaw
+returns c = rw (← c .before .count .ensures, le-leb _ _ (c .if1 .taken))
+
+returns-2 : tie.Need-returns-2
+unfolding surplusFlaw
+returns-2 c = rw (← c .before .count .ensures, lt-leb _ _ (c .if1 .left))
+
+pub surplus-flaw-spec : {M : Type 1} → statement M
+surplus-flaw-spec = tie.close (tie.spec (λ c κs. search needs) (λ c. search needs) returns returns-2)

@@ -1,0 +1,30 @@
+-- `outputs::sx1272::clamped_power` meets its contract: each output has its own range.
+-- Assumes nothing.
+use borrow.Author.Needs.{needs}
+use mir.Syntax.{w32}
+use mir.ValLaws.{toZ-ofZ}
+use Rattle.sheets.specs.Power.{clamped}
+use Rattle.levels.proofs.Whole.{held}
+use Rattle.outputs.proofs.sx1272.clamped_power.Statement.{statement}
+use Rattle.outputs.proofs.sx1272.clamped_power.Tie as tie
+
+returns : tie.Need-returns
+unfolding clamped
+returns c =
+    let start = c .before .before in
+    rw (held (c .clamp .result) (c .clamp .ok), c .before .if1 .taken, ← toZ-ofZ w32 _ (start .fits .p-out)) (c .clamp .ensures)
+
+returns-2 : tie.Need-returns-2
+unfolding clamped
+returns-2 c =
+    let start = c .before .before in
+    rw (held (c .clamp2 .result) (c .clamp2 .ok), c .before .if1 .left, ← toZ-ofZ w32 _ (start .fits .p-out)) (c .clamp2 .ensures)
+
+pub clamped-power-spec : {M : Type 1} → statement M
+clamped-power-spec =
+    tie.close
+    (tie.spec
+    (λ c κs. search needs)
+    (λ c κs. search needs)
+    returns
+    returns-2)

@@ -1,0 +1,62 @@
+-- `outputs::sx1276::pa_config` meets its contract: what each bracket gives is the definition at each power of the range.
+-- Assumes nothing.
+use borrow.Author.Needs.{needs}
+use mathlib.Core.Path.{_≡_}
+use mathlib.Core.Logic.{⊎-elim}
+use mathlib.Core.Bool.{Bool, true, false, cond}
+use Prim.Native.Nat.{ℕ}
+use lib.IntN.{ℤ, pos, negsuc}
+use lib.Bits.{bitOr}
+use lib.Signed.{ltZ}
+use mir.Syntax.{w32}
+use mir.Val.{toZ, ofZ}
+use mir.ValLaws.{toZ-ofZ}
+use Rattle.sheets.specs.declared.Variant.the-variants.{Sx1276}
+use Rattle.sheets.specs.Power.{clamped, paConfig}
+use Rattle.levels.specs.Ranges.{level, InRange}
+use Rattle.levels.proofs.Whole.{among}
+use Rattle.outputs.proofs.sx1276.pa_config.Statement.{statement}
+use Rattle.outputs.proofs.sx1276.pa_config.Tie as tie
+
+abbrev told : Bool → ℤ → ℕ
+told true z = bitOr 0x80 (level (pos 2) (pos 20) z)
+told false z =
+    cond (ltZ z (negsuc 3)) (bitOr 0x70 (level (pos 0) (pos 14) z))
+    (cond (ltZ z (pos 0)) (bitOr 0xfc (level (negsuc 3) (negsuc 0) z)) (bitOr 0x70 (level (pos 0) (pos 14) z)))
+
+right : (boost : Bool) (z : ℤ) → InRange Sx1276 boost z → told boost z ≡ paConfig Sx1276 boost z
+unfolding paConfig clamped level
+right true z r = among (pos 2) 18 (told true) (paConfig Sx1276 true) tt z (r .0) (r .1)
+right false z r = among (negsuc 3) 18 (told false) (paConfig Sx1276 false) tt z (r .0) (r .1)
+
+answer : (c : tie.Start) → told (c .args .tx-boost) (toZ w32 (ofZ w32 (c .args .txp))) ≡ paConfig Sx1276 (c .args .tx-boost) (c .args .txp)
+answer c = rw (toZ-ofZ w32 _ (c .fits .txp)) (right (c .args .tx-boost) (c .args .txp) (c .pre))
+
+returns : tie.Need-returns
+returns c =
+    let t = c .before in
+    rw (c .level .ensures, t .if1 .taken) (rw (t .if1 .taken) at (answer (t .before)))
+
+returns-2 : tie.Need-returns-2
+returns-2 c =
+    let s = c .before .before in
+    let t = s .before in
+    rw (c .level2 .ensures, t .if1 .left) (rw (t .if1 .left, s .if2 .left, c .before .if3 .taken) at (answer (t .before)))
+
+returns-3 : tie.Need-returns-3
+returns-3 c =
+    let t = c .before .before in
+    rw (c .level3 .ensures, t .if1 .left)
+    (⊎-elim (λ w. rw (t .if1 .left, w .taken) at (answer (t .before))) (λ w. rw (t .if1 .left, w .0 .left, w .1 .left) at (answer (t .before)))
+    (c .before .if2 .came))
+
+pub pa-config-spec : {M : Type 1} → statement M
+pa-config-spec =
+    tie.close
+    (tie.spec
+    (λ c κs. search needs)
+    (λ c κs. search needs)
+    (λ c κs. search needs)
+    returns
+    returns-2
+    returns-3)

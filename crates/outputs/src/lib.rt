@@ -1,0 +1,3 @@
+// What the outputs of each variant do with a power in dBm: the power that they take, and their registers then.
+pub mod sx1272;
+pub mod sx1276;

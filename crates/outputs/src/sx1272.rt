@@ -1,0 +1,35 @@
+// The SX1272's outputs, PA_BOOST and RFO.
+ghost use mathlib.Core.Path.{_≡_};
+ghost use Rattle.sheets.specs.Power.{clamped, paConfig};
+ghost use Rattle.levels.specs.Ranges.{InRange};
+use levels::clamp;
+use levels::level;
+use sheets::Variant;
+
+const PA_BOOST: u8 = 0x80;
+
+// In dBm: PA_BOOST has 2 to 20, RFO -1 to 14.
+pub fn clamped_power(p_out: i32, tx_boost: bool) -> i32
+    ensures { λ r. ⌜ r ≡ clamped Variant.Sx1272 «tx_boost» «p_out» ⌝ }
+{
+    if tx_boost {
+        clamp(p_out, 2, 20)
+    } else {
+        clamp(p_out, -1, 14)
+    }
+}
+
+// The +20 dBm setting adds 3 dB, so its powers count from 5 dBm.
+pub fn pa_config(txp: i32, tx_boost: bool) -> u8
+    requires { ⌜ InRange Variant.Sx1272 «tx_boost» txp ⌝ }
+    ensures { λ r. ⌜ r ≡ paConfig Variant.Sx1272 «tx_boost» txp ⌝ }
+{
+    if tx_boost {
+        match txp {
+            18..=20 => PA_BOOST | level(txp, 5, 20),
+            _ => PA_BOOST | level(txp, 2, 17),
+        }
+    } else {
+        level(txp, -1, 14)
+    }
+}

@@ -1,0 +1,21 @@
+-- `request_faults::put_numbered` meets its contract: one text behind another.
+-- Assumes nothing.
+use borrow.Author.Needs.{needs}
+use native.Mathlib.Omega.{arith}
+use Rattle.printing.proofs.Appending.{then}
+use Rattle.request_faults.proofs.put_numbered.Statement.{statement}
+use Rattle.request_faults.proofs.put_numbered.Tie as tie
+
+returns : tie.Need-returns
+returns c = (then (c .before .before .before .before .before .before .before .before .before .before .put .ensures) (then (c .before .before .before .before .before .before .put-decimal .ensures .0) (c .before .before .put2 .ensures)), omega arith)
+
+pub put-numbered-spec : {M : Type 1} → statement M
+put-numbered-spec =
+    tie.close
+    (tie.spec
+    (λ c. search needs)
+    (λ c κs. search needs)
+    (λ c κs. search needs)
+    (λ c κs. search needs)
+    (λ c. search needs)
+    returns)
