@@ -1,9 +1,9 @@
 // What was found, beside what the bench says.
+use digits::put_decimal;
+use digits::put_signed;
 use hex::Case;
 use libc::STDOUT_FILENO;
-use printing::put_decimal;
 use printing::put_hex;
-use printing::put_signed;
 use reports::wide;
 
 pub fn text(t: &[u8]) {

@@ -1,11 +1,10 @@
--- A board as a person wants it, in a line, and the line of an image that is no link of it.
+-- A board as a person wants it, in a line.
 use mathlib.Core.Bool.{Bool, true, false}
 use mathlib.Core.List.{List, [], _++_}
 use Prim.Native.Nat.{ℕ}
 use Rattle.sheets.specs.declared.Variant.{Variant}
 use Rattle.sheets.specs.declared.Variant.the-variants.{Sx1272, Sx1276}
 use Rattle.reading.specs.Words.{ascii}
-use Rattle.numerals.specs.Numbers.{byteText}
 use Rattle.board_lines.specs.declared.Oscillator.{Oscillator}
 use Rattle.board_lines.specs.declared.Oscillator.the-variants.{Crystal, Tcxo, Either}
 
@@ -24,8 +23,3 @@ oscillatorText Either = ascii ", with or without TCXO\n"
 
 abbrev pub boardLine : Variant → Bool → Oscillator → List ℕ
 boardLine v boost o = chipText v ++ (boostText boost ++ oscillatorText o)
-
--- the register that rules a link out, and what it holds
-abbrev pub ruledOutLine : ℕ → ℕ → List ℕ
-ruledOutLine register value =
-    ascii "no link           27 NotALink: register 0x" ++ (byteText register ++ (ascii " holds 0x" ++ (byteText value ++ ascii "\n")))

@@ -1,11 +1,10 @@
-// A board as a person wants it, in a line, and the line of an image that is no link of it.
+// A board as a person wants it, in a line.
 ghost use mathlib.Core.Path.{_≡_};
 ghost use mathlib.Core.List.{_++_};
 ghost use Prim.Native.Nat.{_+_, _≤_};
 ghost use lib.ListN.{length};
 ghost use Rattle.printing.specs.Text.{Appended};
-ghost use Rattle.board_lines.specs.Board.{chipText, boostText, oscillatorText, boardLine, ruledOutLine};
-use numerals::put_byte;
+ghost use Rattle.board_lines.specs.Board.{chipText, boostText, oscillatorText, boardLine};
 use printing::put;
 use sheets::Variant;
 
@@ -55,17 +54,4 @@ pub fn put_board(variant: Variant, boost: bool, o: Oscillator, out: &mut [u8], a
     let at = put_chip(variant, out, at);
     let at = put_boost(boost, out, at);
     put_oscillator(o, out, at)
-}
-
-// The register that rules a link out, and what it holds.
-pub fn put_ruled_out(register: u8, value: u8, out: &mut [u8], at: usize) -> usize
-    requires { ⌜ at + 70 ≤ length (now out) ⌝ }
-    ensures { λ r. ⌜ Appended (ruledOutLine register value) at (now (out .entry)) r (now (out .exit)) ⌝ }
-    ensures { λ r. ⌜ r ≤ at + 70 ⌝ }
-{
-    let at = put(b"no link           27 NotALink: register 0x", out, at);
-    let at = put_byte(register, out, at);
-    let at = put(b" holds 0x", out, at);
-    let at = put_byte(value, out, at);
-    put(b"\n", out, at)
 }

@@ -1,4 +1,4 @@
--- The fields of a row, and those of a board and of the register that rules a link out.
+-- The fields of a row, and those of a board.
 use mathlib.Core.Bool.{Bool, true, false}
 use mathlib.Core.List.{List, [], _++_}
 use Prim.Native.Nat.{ℕ}
@@ -6,7 +6,7 @@ use Rattle.sheets.specs.declared.Variant.{Variant}
 use Rattle.sheets.specs.declared.Variant.the-variants.{Sx1272, Sx1276}
 use Rattle.registers.specs.declared.board.Board.{Board}
 use Rattle.reading.specs.Words.{ascii}
-use Rattle.numerals.specs.Numbers.{counted, byteText}
+use Rattle.numerals.specs.Numbers.{counted}
 
 abbrev pub field : ℕ → List ℕ
 field n = counted (ascii "\t") n []
@@ -25,6 +25,3 @@ bit false = 0
 -- the board, and the number that the reader answers
 abbrev pub boardFields : Board → ℕ → List ℕ
 boardFields b answer = fourFields (chip (b .variant)) (bit (b .«tcxo_used»)) (bit (b .«tx_boost»)) answer
-
-abbrev pub ruledOutFields : ℕ → ℕ → List ℕ
-ruledOutFields register value = ascii "\t0x" ++ (byteText register ++ (ascii "\t0x" ++ (byteText value ++ ascii "\n")))

@@ -1,12 +1,10 @@
-// The fields of a row: a tab and a number each; those of a board, and those of the register that rules a link out.
+// The fields of a row, a tab and a number each, and those of a board.
 ghost use mathlib.Core.Path.{_≡_};
 ghost use Prim.Native.Nat.{_+_, _≤_};
 ghost use lib.ListN.{length};
 ghost use Rattle.printing.specs.Text.{Appended};
-ghost use Rattle.board_rows.specs.Fields.{field, fourFields, chip as chipOf, bit as bitOf, boardFields, ruledOutFields};
-use numerals::put_byte;
+ghost use Rattle.board_rows.specs.Fields.{field, fourFields, chip as chipOf, bit as bitOf, boardFields};
 use numerals::put_counted;
-use printing::put;
 use registers::board::Board;
 use sheets::Variant;
 
@@ -59,17 +57,4 @@ pub fn put_board_fields(board: Board, answer: u8, out: &mut [u8], at: usize) -> 
         out,
         at,
     )
-}
-
-// The register that rules a link out, and what it holds.
-pub fn put_ruled_out_fields(register: u8, value: u8, out: &mut [u8], at: usize) -> usize
-    requires { ⌜ at + 20 ≤ length (now out) ⌝ }
-    ensures { λ r. ⌜ Appended (ruledOutFields register value) at (now (out .entry)) r (now (out .exit)) ⌝ }
-    ensures { λ r. ⌜ r ≤ at + 20 ⌝ }
-{
-    let at = put(b"\t0x", out, at);
-    let at = put_byte(register, out, at);
-    let at = put(b"\t0x", out, at);
-    let at = put_byte(value, out, at);
-    put(b"\n", out, at)
 }

@@ -7,10 +7,10 @@ ghost use Prim.Native.Nat.{_+_, _≤_};
 ghost use lib.ListN.{length, take, getD};
 ghost use Rattle.printing.specs.Text.{Appended};
 ghost use Rattle.faults.specs.Faults.{placeText, badText, countText, faultText};
+use digits::put_decimal;
 use dump::Read;
 use hex::Case;
 use printing::put;
-use printing::put_decimal;
 use printing::put_hex;
 use spot::spot_behind;
 

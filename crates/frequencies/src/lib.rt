@@ -5,8 +5,8 @@ ghost use lib.ListN.{length};
 ghost use Rattle.sheets.specs.Modem.{hertz};
 ghost use Rattle.printing.specs.Text.{Appended};
 ghost use Rattle.frequencies.specs.Frequencies.{twoDigits, sixDigits, megahertz, kilohertz};
+use digits::put_decimal;
 use printing::put;
-use printing::put_decimal;
 use sheets::bandwidth_hertz;
 
 fn put_two_digits(n: u32, out: &mut [u8], at: usize) -> usize

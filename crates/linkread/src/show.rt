@@ -33,7 +33,7 @@ fn print_ruled_out(board: Board, o: Oscillator, register: u8, value: u8) {
     let variant = board.variant;
     let mut out = [0u8; 256];
     let at = board_lines::put_board(variant, board.tx_boost, o, &mut out, 0);
-    let n = board_lines::put_ruled_out(register, value, &mut out, at);
+    let n = ruled_out::put_ruled_out(register, value, &mut out, at);
     write_part(STDOUT_FILENO, &out, n);
 }
 
@@ -48,7 +48,7 @@ fn print_link_row(name: &[u8], board: Board, l: Link) {
 fn print_ruled_out_row(name: &[u8], board: Board, register: u8, value: u8) {
     let mut out = [0u8; 512];
     let at = board_rows::put_board_fields(board, 27, &mut out, 0);
-    let n = board_rows::put_ruled_out_fields(register, value, &mut out, at);
+    let n = ruled_out::put_ruled_out_fields(register, value, &mut out, at);
     io::write_all(STDOUT_FILENO, name);
     write_part(STDOUT_FILENO, &out, n);
 }

@@ -5,9 +5,9 @@ ghost use lib.ListN.{length};
 ghost use Rattle.reading.specs.Words.{ascii};
 ghost use Rattle.printing.specs.Text.{Appended};
 ghost use Rattle.numerals.specs.Numbers.{counted, choice, byteText, bytesText};
+use digits::put_decimal;
 use hex::Case;
 use printing::put;
-use printing::put_decimal;
 use printing::put_hex;
 
 pub fn put_counted(name: &[u8], n: u64, unit: &[u8], out: &mut [u8], at: usize) -> usize

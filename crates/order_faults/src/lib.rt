@@ -4,9 +4,9 @@ ghost use Prim.Native.Nat.{_+_, _≤_};
 ghost use lib.ListN.{length};
 ghost use Rattle.printing.specs.Text.{Appended};
 ghost use Rattle.order_faults.specs.Words.{rangeText, expectedText, placeText, wrongText};
+use digits::put_decimal;
 use orders::Expected;
 use printing::put;
-use printing::put_decimal;
 use signatures::POWER;
 
 fn put_range(most: u64, out: &mut [u8], at: usize) -> usize

@@ -4,10 +4,10 @@ ghost use Rattle.sheets.specs.Interrupts.{Activity.transmitting, Activity.recei
 ghost use Rattle.params.specs.Answers.{tellsIrq, usedIrq};
 ghost use Rattle.mode_codes.specs.Modes.{activity};
 ghost use Rattle.operations.specs.Interrupts.{eventTold};
+use irq_masks::IrqMask;
 use params::answers::IrqAnswer;
 use params::mod_params::RadioError;
 use params::mod_params::RadioMode;
-use values::IrqMask;
 
 fn tx_answer(irq_flags: u8, used: usize) -> IrqAnswer
     ensures { λ r. ⌜ (tellsIrq r ≡ eventTold (event transmitting «irq_flags»)) × (usedIrq r ≡ used) ⌝ }

@@ -4,9 +4,9 @@ ghost use Prim.Native.Nat.{_+_, _*_, _≤_};
 ghost use lib.ListN.{length};
 ghost use Rattle.printing.specs.Text.{Appended};
 ghost use Rattle.outcomes.specs.Outcomes.{lentText, usedText, leftText};
+use digits::put_decimal;
 use hex::Case;
 use printing::put;
-use printing::put_decimal;
 use printing::put_hex;
 
 fn put_lent(s: &[u8], out: &mut [u8], at: usize) -> usize

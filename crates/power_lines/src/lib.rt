@@ -5,8 +5,8 @@ ghost use lib.ListN.{length};
 ghost use Rattle.reading.specs.Words.{ascii};
 ghost use Rattle.printing.specs.Text.{Appended};
 ghost use Rattle.power_lines.specs.Lines.{powerLine, pinLine};
+use digits::put_signed;
 use printing::put;
-use printing::put_signed;
 
 pub fn put_power(power: i32, out: &mut [u8], at: usize) -> usize
     requires { ⌜ at + 50 ≤ length (now out) ⌝ }

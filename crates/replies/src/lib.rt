@@ -5,10 +5,10 @@ ghost use lib.ListN.{length};
 ghost use Rattle.params.specs.Errors.{refusal};
 ghost use Rattle.printing.specs.Text.{Appended};
 ghost use Rattle.replies.specs.Answers.{plain, valuesText, answerText};
+use digits::put_decimal;
+use digits::put_signed;
 use params::mod_params::RadioError;
 use printing::put;
-use printing::put_decimal;
-use printing::put_signed;
 
 pub fn put_values(vs: &[u64], out: &mut [u8], at: usize) -> usize
     requires { ⌜ at + 21 * length (now vs) ≤ length (now out) ⌝ }

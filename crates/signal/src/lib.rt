@@ -1,21 +1,10 @@
 // A received packet's signal, in whole dB and dBm, from the bytes that the radio reports.
 ghost use mathlib.Core.Path.{_≡_};
-ghost use Prim.Native.Nat.{_^_, _<_};
 ghost use lib.IntN.{pos, negsuc};
 ghost use lib.Signed.{_≤ℤ_};
-ghost use Rattle.sheets.specs.Signal.{snr, offset, rssi};
+ghost use Rattle.sheets.specs.Signal.{snr, rssi};
 use params::mod_params::PacketStatus;
 use scaling::scaled;
-use sheets::Variant;
-use units::Steps;
-
-const SX1272_RSSI_OFFSET: i16 = -139;
-
-const SX1276_RSSI_OFFSET_LF: i16 = -164;
-
-const SX1276_RSSI_OFFSET_HF: i16 = -157;
-
-const SX1276_RF_MID_BAND_THRESH: u32 = 525_000_000;
 
 // RegPktSnrValue counts quarter dB; the quotient goes toward zero, so that 0xfd to 0xff are 0.
 pub fn snr(raw: u8) -> i16
@@ -26,25 +15,6 @@ pub fn snr(raw: u8) -> i16
         wide / 4
     } else {
         (wide - 256) / 4
-    }
-}
-
-// The SX1276's port follows from what RegFrf holds, not from the frequency that was asked for.
-pub fn rssi_offset(variant: Variant, frf: Steps) -> i16
-    requires { ⌜ frf .0 < 2 ^ 24 ⌝ }
-    ensures { λ r. ⌜ r ≡ offset variant (frf .0) ⌝ }
-{
-    match variant {
-        Variant::Sx1272 => SX1272_RSSI_OFFSET,
-        Variant::Sx1276 => {
-            let frequency = frf.read_back();
-            let hz = frequency.0;
-            if hz > SX1276_RF_MID_BAND_THRESH {
-                SX1276_RSSI_OFFSET_HF
-            } else {
-                SX1276_RSSI_OFFSET_LF
-            }
-        }
     }
 }
 

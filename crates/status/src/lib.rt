@@ -40,8 +40,8 @@ fn rssi_offset(image: &[u8], log: &mut [u8], at: usize, variant: Variant) -> i16
     ensures { λ _. ⌜ Done (frfRead variant) (now (image .entry)) (now (log .entry)) at (endAfter (frfRead variant) (now (image .entry)) at) (now (image .entry)) (now (log .exit)) ⌝ }
 {
     match variant {
-        Variant::Sx1272 => signal::rssi_offset(variant, Steps(0)),
-        Variant::Sx1276 => signal::rssi_offset(variant, read_frf(image, log, at)),
+        Variant::Sx1272 => offsets::rssi_offset(variant, Steps(0)),
+        Variant::Sx1276 => offsets::rssi_offset(variant, read_frf(image, log, at)),
     }
 }
 

@@ -1,12 +1,8 @@
 -- The sheets' values of the names that the driver uses.
 use Prim.Native.Nat.{ℕ}
-use Rattle.sheets.specs.Bits.{Field, mask}
-use Rattle.sheets.specs.Registers as sheet
 use Rattle.sheets.specs.Receive.{opMode}
 use Rattle.values.specs.declared.LoRaMode.{LoRaMode}
 use Rattle.values.specs.declared.LoRaMode.the-variants.{Sleep, Standby, Tx, RxContinuous, RxSingle, Cad}
-use Rattle.values.specs.declared.IrqMask.{IrqMask}
-use Rattle.values.specs.declared.IrqMask.the-variants.{CADActivityDetected, CADDone, TxDone, HeaderValid, RxDone, RxTimeout}
 use Rattle.values.specs.declared.RampTime.{RampTime}
 use Rattle.values.specs.declared.RampTime.the-variants.{Ramp250Us, Ramp40Us}
 
@@ -17,17 +13,6 @@ loraMode Tx = opMode 3
 loraMode RxContinuous = opMode 5
 loraMode RxSingle = opMode 6
 loraMode Cad = opMode 7
-
-abbrev pub flagOf : IrqMask → Field
-flagOf CADActivityDetected = sheet.CadDetected
-flagOf CADDone = sheet.CadDone
-flagOf TxDone = sheet.TxDone
-flagOf HeaderValid = sheet.ValidHeader
-flagOf RxDone = sheet.RxDone
-flagOf RxTimeout = sheet.RxTimeout
-
-abbrev pub flagMask : IrqMask → ℕ
-flagMask m = mask (flagOf m)
 
 -- RegPaRamp's code for the time
 abbrev pub rampCode : RampTime → ℕ

@@ -1,9 +1,8 @@
-// What is written to registers and what is looked for in them, by name: modes, flags, ramp times, gains. The Rust's radio_kind_params.rs has them.
+// What is written to registers, by name: modes, ramp times, gains. The Rust's radio_kind_params.rs has them.
 ghost use mathlib.Core.Path.{_≡_};
 ghost use mathlib.Core.Bool.{true, false};
-ghost use Rattle.sheets.specs.Interrupts.{raised};
 ghost use Rattle.sheets.specs.Receive.{lna};
-ghost use Rattle.values.specs.Values.{loraMode, flagOf, flagMask, rampCode};
+ghost use Rattle.values.specs.Values.{loraMode, rampCode};
 
 // What the radio does.
 pub enum LoRaMode {
@@ -28,38 +27,6 @@ impl LoRaMode {
             LoRaMode::RxSingle => 0x86,
             LoRaMode::Cad => 0x87,
         }
-    }
-}
-
-// The flags of RegIrqFlags that decide an outcome.
-pub enum IrqMask {
-    CADActivityDetected,
-    CADDone,
-    TxDone,
-    HeaderValid,
-    RxDone,
-    RxTimeout,
-}
-
-impl IrqMask {
-    pub fn value(self) -> u8
-        ensures { λ r. ⌜ r ≡ flagMask self ⌝ }
-    {
-        match self {
-            IrqMask::CADActivityDetected => 0x01,
-            IrqMask::CADDone => 0x04,
-            IrqMask::TxDone => 0x08,
-            IrqMask::HeaderValid => 0x10,
-            IrqMask::RxDone => 0x40,
-            IrqMask::RxTimeout => 0x80,
-        }
-    }
-
-    pub fn is_set_in(self, flags: u8) -> bool
-        ensures { λ r. ⌜ r ≡ raised (flagOf self) flags ⌝ }
-    {
-        let mask = self.value();
-        mask & flags == mask
     }
 }
 
