@@ -1,12 +1,8 @@
 // The line of a link's frequency: in MHz, and as a count of steps with the bytes of RegFrf.
-ghost use mathlib.Core.List.{_++_};
-ghost use Prim.Native.Nat.{_+_, _≤_, _<_, _^_};
+ghost use Prim.Native.Nat.{_+_, _≤_};
 ghost use lib.ListN.{length};
-ghost use Rattle.sheets.specs.Frequency.{steps, frfMsb, frfMid, frfLsb};
-ghost use Rattle.reading.specs.Words.{ascii};
+ghost use Rattle.sheets.specs.Frequency.{steps};
 ghost use Rattle.printing.specs.Text.{Appended};
-ghost use Rattle.frequencies.specs.Frequencies.{megahertz};
-ghost use Rattle.numerals.specs.Numbers.{counted, bytesText};
 ghost use Rattle.frequency_lines.specs.Lines.{stepText, frequencyLine};
 use frequencies::put_megahertz;
 use numerals::put_bytes;

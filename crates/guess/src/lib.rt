@@ -8,7 +8,6 @@ use registers::board::Board;
 use sheets::Variant;
 use shown::power_shown;
 use shown::power_shown_with;
-use units::Hertz;
 use units::Steps;
 
 // At 125 kHz every frequency is accepted.

@@ -1,11 +1,8 @@
 // A link as a person wants it: a line for each setting.
-ghost use mathlib.Core.Path.{_≡_};
 ghost use mathlib.Core.List.{_++_};
 ghost use Prim.Native.Nat.{_+_, _≤_};
 ghost use lib.ListN.{length};
-ghost use Rattle.reading.specs.Words.{ascii};
 ghost use Rattle.printing.specs.Text.{Appended};
-ghost use Rattle.numerals.specs.Numbers.{counted};
 ghost use Rattle.frequency_lines.specs.Lines.{frequencyLine};
 ghost use Rattle.link_lines.specs.Lines.{syncLine, bandwidthLine, modemLines, packetLines, linkLines};
 use frequencies::hertz_of;

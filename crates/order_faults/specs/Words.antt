@@ -1,4 +1,4 @@
--- What is wrong with a line, in words.
+-- What is wrong with a line that is no command, in words.
 use mathlib.Core.Bool.{cond}
 use mathlib.Core.List.{List, _++_}
 use Prim.Native.Nat.{ℕ}

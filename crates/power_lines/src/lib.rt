@@ -1,8 +1,6 @@
 // The lines of a link's power: in dBm, and the pin that it goes out at.
-ghost use mathlib.Core.List.{_++_};
 ghost use Prim.Native.Nat.{_+_, _≤_, _<_};
 ghost use lib.ListN.{length};
-ghost use Rattle.reading.specs.Words.{ascii};
 ghost use Rattle.printing.specs.Text.{Appended};
 ghost use Rattle.power_lines.specs.Lines.{powerLine, pinLine};
 use digits::put_signed;

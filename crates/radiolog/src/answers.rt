@@ -1,5 +1,5 @@
 // What a call appended and answered, as lines in a lent place. Each function answers where they end.
-ghost use Prim.Native.Nat.{_+_, _≤_};
+ghost use Prim.Native.Nat.{_≤_};
 ghost use lib.ListN.{length};
 use hex::Case;
 use listing::put_records;

@@ -1,7 +1,6 @@
-// What is wrong with a line, in words.
-ghost use mathlib.Core.Path.{_≡_};
+// What is wrong with a line that is no call, in words.
 ghost use mathlib.Core.List.{_++_};
-ghost use Prim.Native.Nat.{_+_, _≤_, _<_};
+ghost use Prim.Native.Nat.{_+_, _≤_};
 ghost use lib.ListN.{length};
 ghost use Rattle.reading.specs.Words.{ascii};
 ghost use Rattle.printing.specs.Text.{Appended};

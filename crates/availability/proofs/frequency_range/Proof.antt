@@ -1,6 +1,5 @@
 -- `availability::frequency_range` meets its contract.
 -- Assumes nothing.
-use borrow.Author.Needs.{needs}
 use borrow.Author.Tests.{lt-ltb, le-ltb}
 use Rattle.availability.proofs.frequency_range.Statement.{statement}
 use Rattle.availability.proofs.frequency_range.Tie as tie

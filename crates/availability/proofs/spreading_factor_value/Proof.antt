@@ -1,6 +1,5 @@
 -- `availability::spreading_factor_value` meets its contract.
 -- Assumes nothing.
-use borrow.Author.Needs.{needs}
 use borrow.Author.Tests.{ne-eqb}
 use Rattle.availability.proofs.spreading_factor_value.Statement.{statement}
 use Rattle.availability.proofs.spreading_factor_value.Tie as tie

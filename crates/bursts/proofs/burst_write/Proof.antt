@@ -1,4 +1,4 @@
--- `bursts::burst_write` meets its contract: the to is the first one and the bytes passed, and what is left to store gives the whole burst.
+-- `bursts::burst_write` meets its contract: the place is the first one and as many more as bytes are passed, and what is left to store gives the whole burst.
 -- Assumes nothing.
 use borrow.Author.Needs.{needs}
 use mathlib.Core.Path.{_≡_, refl, _∙_}

@@ -1,7 +1,5 @@
 -- `digits::magnitude` meets its contract: a number of 32 bits without its sign fits in 64.
 -- Assumes nothing.
-use borrow.Author.Needs.{needs}
-use mathlib.Core.Path.{_≡_}
 use mir.Syntax.{w32, w64}
 use mir.ValLaws.{toZ-ofZ}
 use Rattle.digits.proofs.Signs.{wide, size-fits, at-least-zero, difference, difference-fits}

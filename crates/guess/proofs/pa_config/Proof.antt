@@ -1,7 +1,7 @@
 -- `guess::pa_config` meets its contract: the power that the byte shows.
 -- Assumes nothing.
 use borrow.Author.Needs.{needs}
-use mathlib.Core.Path.{_≡_, refl, sym, ap, _∙_}
+use mathlib.Core.Path.{ap, _∙_}
 use native.Mathlib.Omega.{arith}
 use lib.IntN.{ℤ}
 use Rattle.lora_page.specs.Lora.{powered}

@@ -1,7 +1,7 @@
 -- `guess::tuned` meets its contract: the lowest frequency of the count.
 -- Assumes nothing.
 use borrow.Author.Needs.{needs}
-use mathlib.Core.Path.{_≡_, refl, sym, ap, _∙_}
+use mathlib.Core.Path.{refl}
 use Rattle.lora_page.proofs.Lawful.{same-link}
 use Rattle.guess.proofs.tuned.Statement.{statement}
 use Rattle.guess.proofs.tuned.Tie as tie

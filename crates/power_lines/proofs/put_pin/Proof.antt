@@ -1,8 +1,7 @@
 -- `power_lines::put_pin` meets its contract: the tests are the definition's.
 -- Assumes nothing.
 use borrow.Author.Needs.{needs}
-use borrow.Author.Tests.{eq-eqb, ne-eqb, lt-ltb, le-ltb}
-use Rattle.printing.proofs.Appending.{then, same}
+use borrow.Author.Tests.{lt-ltb, le-ltb}
 use native.Mathlib.Omega.{arith}
 use Rattle.power_lines.proofs.put_pin.Statement.{statement}
 use Rattle.power_lines.proofs.put_pin.Tie as tie

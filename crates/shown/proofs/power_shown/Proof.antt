@@ -2,7 +2,7 @@
 -- Assumes nothing.
 use borrow.Author.Needs.{needs}
 use native.Mathlib.Omega.{arith}
-use mathlib.Core.Bool.{true, false}
+use mathlib.Core.Bool.{false}
 use Rattle.sheets.specs.declared.Variant.the-variants.{Sx1272, Sx1276}
 use Rattle.shown.proofs.Bytes.{boosted-72, boosted-76, rfo-72, shown-held}
 use Rattle.shown.proofs.power_shown.Statement.{statement}

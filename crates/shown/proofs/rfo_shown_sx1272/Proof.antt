@@ -1,7 +1,7 @@
 -- `shown::rfo_shown_sx1272` meets its contract: by the count.
 -- Assumes nothing.
 use borrow.Author.Needs.{needs}
-use mathlib.Core.Path.{_≡_, refl, sym, ap, _∙_}
+use mathlib.Core.Path.{refl}
 use native.Mathlib.Omega.{arith}
 use Prim.Native.Nat.{_-_}
 use lib.IntN.{pos, _-ℤ_}

@@ -1,7 +1,7 @@
 -- `ruled_out::fields::put_ruled_out_fields` meets its contract: one text behind another.
 -- Assumes nothing.
 use borrow.Author.Needs.{needs}
-use Rattle.printing.proofs.Appending.{then, same}
+use Rattle.printing.proofs.Appending.{then}
 use native.Mathlib.Omega.{arith}
 use Rattle.ruled_out.proofs.fields.put_ruled_out_fields.Statement.{statement}
 use Rattle.ruled_out.proofs.fields.put_ruled_out_fields.Tie as tie

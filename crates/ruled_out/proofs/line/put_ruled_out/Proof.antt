@@ -1,7 +1,7 @@
 -- `ruled_out::line::put_ruled_out` meets its contract: one text behind another.
 -- Assumes nothing.
 use borrow.Author.Needs.{needs}
-use Rattle.printing.proofs.Appending.{then, same}
+use Rattle.printing.proofs.Appending.{then}
 use native.Mathlib.Omega.{arith}
 use Rattle.ruled_out.proofs.line.put_ruled_out.Statement.{statement}
 use Rattle.ruled_out.proofs.line.put_ruled_out.Tie as tie
