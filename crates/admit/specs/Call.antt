@@ -1,6 +1,6 @@
 -- A call: whether it is admitted, and then its whole outcome.
 use mathlib.Core.Path.{_≡_}
-use mathlib.Core.Bool.{Bool, true, false, _&&_}
+use mathlib.Core.Bool.{Bool, _&&_}
 use mathlib.Core.List.{List, []}
 use Prim.Native.Nat.{ℕ, _%_}
 use lib.Dec.{leb, eqb}
@@ -14,9 +14,12 @@ use Rattle.log.specs.Steps.{Step, imageAfter, logAfter, endAfter, fifoAfter, bu
 
 -- ---- admission: 26, then what the arguments give, then 24
 
--- an image of 128 bytes, a log of whole records, and of them as many used as it has
+-- an image of 128 bytes, a log of whole records, and of them no more used than it has: lengths are enough to tell
+abbrev pub wellFormed : ℕ → ℕ → ℕ → Bool
+wellFormed image log used = eqb image 128 && (eqb (log % 3) 0 && (eqb (used % 3) 0 && leb used log))
+
 abbrev pub formed : List ℕ → List ℕ → ℕ → Bool
-formed im log used = eqb (length im) 128 && (eqb (length log % 3) 0 && (eqb (used % 3) 0 && leb used (length log)))
+formed im log used = wellFormed (length im) (length log) used
 
 abbrev pub formedFifo : List ℕ → Bool
 formedFifo fifo = eqb (length fifo) 256

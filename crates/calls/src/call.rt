@@ -38,6 +38,38 @@ fn board(line: &[u8]) -> Board {
     }
 }
 
+// The calls that are lent no FIFO and no buffer. The answer is told at the start of out.
+fn act_on_registers(
+    o: Operation,
+    args: &[u8],
+    b: Board,
+    used: usize,
+    image: &mut [u8],
+    log: &mut [u8],
+    out: &mut [u8],
+) -> Told
+    requires { ⌜ 230 ≤ length (now out) ⌝ }
+    ensures { λ r. ⌜ r .at ≤ 230 ⌝ }
+{
+    let v = b.variant;
+    match o {
+        Operation::CreateModulationParams => {
+            answers::modulation(acts::create_modulation(args, SPACE, v), used, out)
+        }
+        Operation::CreatePacketParams => {
+            answers::packet(acts::create_packet(args, SPACE), used, out)
+        }
+        Operation::ReadLink => answers::link(link::read_link(image, b), used, out),
+        Operation::GetRxPacketStatus => {
+            answers::measured(sx127x::get_rx_packet_status(image, log, used, v), out)
+        }
+        Operation::ProcessIrqEvent => {
+            answers::event(acts::event(args, SPACE, image, log, used), out)
+        }
+        _ => answers::done(acts::done(o, args, SPACE, b, image, log, used), out),
+    }
+}
+
 // What is lent is handed on, and the answer told at the start of out.
 fn act(
     o: Operation,
@@ -52,30 +84,17 @@ fn act(
     requires { ⌜ 230 ≤ length (now out) ⌝ }
     ensures { λ r. ⌜ r .at ≤ 230 ⌝ }
 {
-    let args = field(line, TAB, 5);
-    let b = board(line);
-    let v = b.variant;
     match o {
-        Operation::CreateModulationParams => {
-            answers::modulation(acts::create_modulation(args, SPACE, v), used, out)
-        }
-        Operation::CreatePacketParams => {
-            answers::packet(acts::create_packet(args, SPACE), used, out)
-        }
-        Operation::ReadLink => answers::link(link::read_link(image, b), used, out),
         Operation::SetPayload => {
             answers::done(sx127x::set_payload(image, fifo, log, used, buffer), out)
         }
         Operation::GetRxPayload => {
             answers::received(sx127x::get_rx_payload(image, fifo, log, used, buffer), out)
         }
-        Operation::GetRxPacketStatus => {
-            answers::measured(sx127x::get_rx_packet_status(image, log, used, v), out)
+        _ => {
+            let args = field(line, TAB, 5);
+            act_on_registers(o, args, board(line), used, image, log, out)
         }
-        Operation::ProcessIrqEvent => {
-            answers::event(acts::event(args, SPACE, image, log, used), out)
-        }
-        _ => answers::done(acts::done(o, args, SPACE, b, image, log, used), out),
     }
 }
 

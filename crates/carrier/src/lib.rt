@@ -1,5 +1,4 @@
 // The carrier test: `set_tx_continuous_wave_mode`, which the Rust has for the SX1276 alone.
-ghost use mathlib.Core.Path.{_≡_};
 ghost use mathlib.Core.List.{[]};
 ghost use Rattle.params.specs.Answers.{tellsDone, usedDone};
 ghost use Rattle.admit.specs.Call.{Meets};

@@ -1,7 +1,8 @@
 -- The operations: the name of each, its arguments' names, and what numbers they may be.
 use mathlib.Core.Bool.{cond}
-use mathlib.Core.List.{List, [], _∷_, _++_}
-use Prim.Native.Nat.{ℕ}
+use mathlib.Core.List.{List, [], _∷_}
+use Prim.Native.Nat.{ℕ, suc}
+use Rattle.reading.specs.Fields.{fieldAt}
 use Rattle.reading.specs.Words.{ascii, alike}
 use Rattle.commands.specs.declared.Operation.{Operation}
 use Rattle.commands.specs.declared.Operation.the-variants.{InitLora, CreateModulationParams, CreatePacketParams, Reset, SetStandby, SetSleep, SetTxRxBufferBaseAddress, SetTxPowerAndRampTime, SetModulationParams, SetPacketParams, SetChannel, SetPayload, DoTx, DoRx, GetRxPayload, GetRxPacketStatus, DoCad, SetIrqParams, ProcessIrqEvent, SetTxContinuousWaveMode, Program, ReadLink}
@@ -96,20 +97,20 @@ kinds SetTxContinuousWaveMode = []
 kinds Program = byte ∷ byte ∷ byte ∷ byte ∷ hertz ∷ word ∷ byte ∷ byte ∷ byte ∷ power ∷ []
 kinds ReadLink = []
 
--- the first of some operations that has this name
-abbrev pub among : List ℕ → List Operation → Named → Named
-among w [] rest = rest
-among w (o ∷ os) rest = cond (alike w (name o)) (Known o) (among w os rest)
+-- in the order in which their words are listed
+unfoldable pub operations : List Operation
+operations =
+    Reset ∷ SetStandby ∷ SetSleep ∷ DoTx ∷ DoRx ∷ DoCad ∷ SetTxContinuousWaveMode ∷ CreatePacketParams ∷ SetPacketParams ∷ SetPayload ∷ GetRxPayload ∷ GetRxPacketStatus ∷ SetIrqParams ∷ ProcessIrqEvent ∷ InitLora ∷ SetTxRxBufferBaseAddress ∷ SetTxPowerAndRampTime ∷ CreateModulationParams ∷ SetModulationParams ∷ SetChannel ∷ Program ∷ ReadLink ∷ []
 
-abbrev pub modes : List Operation
-modes = Reset ∷ SetStandby ∷ SetSleep ∷ DoTx ∷ DoRx ∷ DoCad ∷ SetTxContinuousWaveMode ∷ []
+-- the first of some operations whose word this is
+abbrev pub among : (Operation → List ℕ) → List ℕ → List Operation → Named
+among word w [] = Unknown
+among word w (o ∷ os) = cond (alike w (word o)) (Known o) (among word w os)
 
-abbrev pub packets : List Operation
-packets = CreatePacketParams ∷ SetPacketParams ∷ SetPayload ∷ GetRxPayload ∷ GetRxPacketStatus ∷ SetIrqParams ∷ ProcessIrqEvent ∷ []
-
-abbrev pub settings : List Operation
-settings =
-    InitLora ∷ SetTxRxBufferBaseAddress ∷ SetTxPowerAndRampTime ∷ CreateModulationParams ∷ SetModulationParams ∷ SetChannel ∷ Program ∷ ReadLink ∷ []
+-- the first of some operations whose word this is, where their words are those of a text from word k on
+abbrev pub foundFrom : List ℕ → List ℕ → ℕ → List Operation → Named
+foundFrom w words k [] = Unknown
+foundFrom w words k (o ∷ os) = cond (alike w (fieldAt 32 k words)) (Known o) (foundFrom w words (suc k) os)
 
 unfoldable pub operationOf : List ℕ → Named
-operationOf w = among w (modes ++ (packets ++ settings)) Unknown
+operationOf w = among name w operations

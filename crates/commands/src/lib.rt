@@ -1,8 +1,9 @@
 // The operations by their names.
 ghost use mathlib.Core.Path.{_≡_};
-ghost use mathlib.Core.Bool.{cond};
-ghost use Rattle.reading.specs.Words.{alike};
-ghost use Rattle.commands.specs.Operations.{among, modes as modesOf, packets as packetsOf, settings as settingsOf, operationOf};
+ghost use Prim.Native.Nat.{_<_};
+ghost use lib.ListN.{getD};
+ghost use Rattle.commands.specs.Operations.{foundFrom, operations, operationOf};
+use reading::field;
 use reading::same;
 
 pub enum Operation {
@@ -35,76 +36,57 @@ pub enum Named {
     Unknown,
 }
 
-pub fn found(w: &[u8], name: &[u8], o: Operation, rest: Named) -> Named
-    ensures { λ r. ⌜ r ≡ cond (alike (now (w .entry)) (now (name .entry))) (Named.Known o) rest ⌝ }
+const OPERATIONS: [Operation; 22] = [
+    Operation::Reset,
+    Operation::SetStandby,
+    Operation::SetSleep,
+    Operation::DoTx,
+    Operation::DoRx,
+    Operation::DoCad,
+    Operation::SetTxContinuousWaveMode,
+    Operation::CreatePacketParams,
+    Operation::SetPacketParams,
+    Operation::SetPayload,
+    Operation::GetRxPayload,
+    Operation::GetRxPacketStatus,
+    Operation::SetIrqParams,
+    Operation::ProcessIrqEvent,
+    Operation::InitLora,
+    Operation::SetTxRxBufferBaseAddress,
+    Operation::SetTxPowerAndRampTime,
+    Operation::CreateModulationParams,
+    Operation::SetModulationParams,
+    Operation::SetChannel,
+    Operation::Program,
+    Operation::ReadLink,
+];
+
+fn operation_at(k: usize) -> Operation
+    requires { ⌜ k < 22 ⌝ }
+    ensures { λ r. ⌜ r ≡ getD operations k Operation.InitLora ⌝ }
 {
-    if same(w, name) { Named::Known(o) } else { rest }
+    OPERATIONS[k]
 }
 
-fn modes(w: &[u8], rest: Named) -> Named
-    ensures { λ r. ⌜ r ≡ among (now (w .entry)) modesOf rest ⌝ }
+// The operation whose word this is in a list of words, which stand in the order of the operations.
+pub fn found(w: &[u8], words: &[u8]) -> Named
+    ensures { λ r. ⌜ r ≡ foundFrom (now (w .entry)) (now (words .entry)) 0 operations ⌝ }
 {
-    let n = found(
-        w,
-        b"set_tx_continuous_wave_mode",
-        Operation::SetTxContinuousWaveMode,
-        rest,
-    );
-    let n = found(w, b"do_cad", Operation::DoCad, n);
-    let n = found(w, b"do_rx", Operation::DoRx, n);
-    let n = found(w, b"do_tx", Operation::DoTx, n);
-    let n = found(w, b"set_sleep", Operation::SetSleep, n);
-    let n = found(w, b"set_standby", Operation::SetStandby, n);
-    found(w, b"reset", Operation::Reset, n)
-}
-
-fn packets(w: &[u8], rest: Named) -> Named
-    ensures { λ r. ⌜ r ≡ among (now (w .entry)) packetsOf rest ⌝ }
-{
-    let n = found(w, b"process_irq_event", Operation::ProcessIrqEvent, rest);
-    let n = found(w, b"set_irq_params", Operation::SetIrqParams, n);
-    let n = found(w, b"get_rx_packet_status", Operation::GetRxPacketStatus, n);
-    let n = found(w, b"get_rx_payload", Operation::GetRxPayload, n);
-    let n = found(w, b"set_payload", Operation::SetPayload, n);
-    let n = found(w, b"set_packet_params", Operation::SetPacketParams, n);
-    found(w, b"create_packet_params", Operation::CreatePacketParams, n)
-}
-
-fn settings(w: &[u8], rest: Named) -> Named
-    ensures { λ r. ⌜ r ≡ among (now (w .entry)) settingsOf rest ⌝ }
-{
-    let n = found(w, b"read_link", Operation::ReadLink, rest);
-    let n = found(w, b"program", Operation::Program, n);
-    let n = found(w, b"set_channel", Operation::SetChannel, n);
-    let n = found(
-        w,
-        b"set_modulation_params",
-        Operation::SetModulationParams,
-        n,
-    );
-    let n = found(
-        w,
-        b"create_modulation_params",
-        Operation::CreateModulationParams,
-        n,
-    );
-    let n = found(
-        w,
-        b"set_tx_power_and_ramp_time",
-        Operation::SetTxPowerAndRampTime,
-        n,
-    );
-    let n = found(
-        w,
-        b"set_tx_rx_buffer_base_address",
-        Operation::SetTxRxBufferBaseAddress,
-        n,
-    );
-    found(w, b"init_lora", Operation::InitLora, n)
+    let mut k = 0;
+    while k < 22 {
+        if same(w, field(words, b' ', k)) {
+            return Named::Known(operation_at(k));
+        }
+        k += 1;
+    }
+    Named::Unknown
 }
 
 pub fn operation_named(w: &[u8]) -> Named
     ensures { λ r. ⌜ r ≡ operationOf (now (w .entry)) ⌝ }
 {
-    modes(w, packets(w, settings(w, Named::Unknown)))
+    found(
+        w,
+        b"reset set_standby set_sleep do_tx do_rx do_cad set_tx_continuous_wave_mode create_packet_params set_packet_params set_payload get_rx_payload get_rx_packet_status set_irq_params process_irq_event init_lora set_tx_rx_buffer_base_address set_tx_power_and_ramp_time create_modulation_params set_modulation_params set_channel program read_link",
+    )
 }

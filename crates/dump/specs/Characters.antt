@@ -1,5 +1,5 @@
 -- The characters of hex text: digits of either letter case, white space, and the x of 0x.
-use mathlib.Core.Bool.{Bool, true, false, cond, _&&_, _||_}
+use mathlib.Core.Bool.{Bool, cond, _&&_, _||_}
 use Prim.Native.Nat.{ℕ}
 use lib.Dec.{eqb, leb}
 use Rattle.hex.specs.Hex.{isNibble, nibble}

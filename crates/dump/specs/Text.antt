@@ -1,7 +1,7 @@
 -- What hex text says: bytes of two digits, each with or without 0x before it, white space between them or none.
 use mathlib.Core.Bool.{cond}
 use mathlib.Core.List.{List, [], _∷_, _++_}
-use Prim.Native.Nat.{ℕ, suc, _+_, _*_, _%_}
+use Prim.Native.Nat.{ℕ, _+_, _*_, _%_}
 use lib.Dec.{eqb}
 use lib.ListN.{length}
 use Rattle.dump.specs.declared.characters.Kind.{Kind}

@@ -3,7 +3,6 @@ mod characters;
 mod text;
 
 ghost use mathlib.Core.Path.{_≡_};
-ghost use Prim.Native.Nat.{_≤_};
 ghost use lib.ListN.{length};
 ghost use Rattle.dump.specs.Dump.{isRaw, readOf, leftOf};
 use characters::could_be_hex;

@@ -1,61 +1,25 @@
 // Interrupts that came: `process_irq_event`.
 ghost use mathlib.Core.Path.{_≡_};
 ghost use mathlib.Core.List.{[]};
-ghost use Prim.Native.Nat.{_+_, _*_, _≤_, _<_};
+ghost use Prim.Native.Nat.{_+_, _*_, _≤_};
 ghost use lib.ListN.{length, getD};
 ghost use Rattle.sheets.specs.Registers.{RegIrqFlags};
 ghost use Rattle.params.specs.Answers.{tellsIrq, usedIrq};
-ghost use Rattle.mode_codes.specs.declared.ModeCode.the-variants.{Named};
 ghost use Rattle.log.specs.Steps.{Done, endAfter};
 ghost use Rattle.admit.specs.Call.{Meets};
-ghost use Rattle.operations.specs.Interrupts.{looking, eventRefusal, processIrq};
+ghost use Rattle.operations.specs.Interrupts.{looking, processIrq};
 ghost use Rattle.operations.proofs.Counts.{lookingRecords};
 use admit::admit;
 use bus::read_register;
 use bus::write_register;
-use irq::mode_or_sleep;
-use mode_codes::ModeCode;
+use irq_modes::event_refusal;
+use irq_modes::mode_or_sleep;
 use mode_codes::radio_mode;
 use outcome::irq_answer;
 use params::answers::IrqAnswer;
-use params::mod_params::RadioError;
-use params::mod_params::RadioMode;
-use params::mod_params::RxMode;
 use params::mod_params::Verdict;
+use records::event_records;
 use registers::radio_kind_params::Register;
-
-// 9 where the Rust would panic.
-fn mode_refusal(mode: RadioMode) -> Verdict
-    ensures { λ r. ⌜ r ≡ eventRefusal (Named mode) ⌝ }
-{
-    match mode {
-        RadioMode::FrequencySynthesis => Verdict::Refused(RadioError::InvalidRadioMode),
-        RadioMode::Receive(rx) => match rx {
-            RxMode::DutyCycle => Verdict::Refused(RadioError::InvalidRadioMode),
-            _ => Verdict::Clear,
-        },
-        _ => Verdict::Clear,
-    }
-}
-
-fn event_refusal(code: ModeCode) -> Verdict
-    ensures { λ r. ⌜ r ≡ eventRefusal code ⌝ }
-{
-    match code {
-        ModeCode::Named(mode) => mode_refusal(mode),
-        ModeCode::NoMode => Verdict::Refused(RadioError::InvalidConfiguration),
-        ModeCode::NoCase => Verdict::Refused(RadioError::InvalidConfiguration),
-    }
-}
-
-fn event_records(clear: u8) -> usize
-    ensures { λ r. ⌜ (r ≡ lookingRecords clear) × (r < 256) ⌝ }
-{
-    match clear {
-        0 => 1,
-        _ => 2,
-    }
-}
 
 // The flags as they were before they are cleared.
 fn read_flags(image: &mut [u8], log: &mut [u8], at: usize, clear: u8) -> u8

@@ -1,10 +1,8 @@
 -- Document 01's starred bench figures: for each row what the definitions compute, and what the bench says.
-use mathlib.Core.Bool.{Bool, true, false, _&&_}
+use mathlib.Core.Bool.{Bool, true, false}
 use mathlib.Core.List.{List, [], _∷_, _++_}
 use Prim.Native.Nat.{ℕ}
-use lib.Dec.{eqb}
 use lib.IntN.{ℤ, pos, negsuc}
-use Rattle.sheets.specs.declared.Variant.{Variant}
 use Rattle.sheets.specs.declared.Variant.the-variants.{Sx1272, Sx1276}
 use Rattle.sheets.specs.Frequency.{steps, held, frfMsb, frfMid, frfLsb, readBack, lowest}
 use Rattle.sheets.specs.Signal.{snr, offset, rssi}
@@ -12,7 +10,6 @@ use Rattle.sheets.specs.Receive.{window}
 use Rattle.sheets.specs.Power.{paConfig, paDac, ocp}
 use Rattle.params.specs.declared.mod_params.Verdict.{Verdict}
 use Rattle.params.specs.declared.mod_params.Verdict.the-variants.{Clear, Refused}
-use Rattle.params.specs.declared.mod_params.Link.{Link}
 use Rattle.params.specs.Errors.{numberOf}
 use Rattle.refusals.specs.Refusals.{linkRefusal}
 

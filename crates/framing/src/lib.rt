@@ -1,7 +1,7 @@
 // Packets' framing: `set_packet_params`.
 ghost use mathlib.Core.Path.{_≡_};
 ghost use mathlib.Core.List.{[]};
-ghost use Prim.Native.Nat.{_+_, _*_, _≤_, _<_};
+ghost use Prim.Native.Nat.{_+_, _*_, _≤_};
 ghost use lib.ListN.{length};
 ghost use Rattle.params.specs.Answers.{tellsDone, usedDone};
 ghost use Rattle.log.specs.Steps.{Done};
@@ -14,6 +14,7 @@ use inversion::write_inversion;
 use params::answers::Answer;
 use params::mod_params::PacketParams;
 use params::mod_params::Verdict;
+use records::packet_records;
 use registers::radio_kind_params::Register;
 use sheets::Variant;
 
@@ -25,15 +26,6 @@ fn write_preamble(image: &mut [u8], log: &mut [u8], at: usize, preamble_length: 
     let lsb = (preamble_length % 256) as u8;
     let at = write_register(image, log, at, Register::RegPreambleMsb, msb);
     write_register(image, log, at, Register::RegPreambleLsb, lsb)
-}
-
-fn packet_records(variant: Variant) -> usize
-    ensures { λ r. ⌜ (r ≡ packetRecords variant) × (r < 256) ⌝ }
-{
-    match variant {
-        Variant::Sx1272 => 6,
-        Variant::Sx1276 => 8,
-    }
 }
 
 // Header and CRC stand in each variant's own places.

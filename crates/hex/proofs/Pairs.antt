@@ -8,10 +8,9 @@ use native.Mathlib.Numerals.{add-one}
 use native.Mathlib.Omega.{arith}
 use borrow.Author.Tests.{leb-true}
 use lib.Dec.{leb}
-use lib.ListN.{length, take, drop, getD, set, take-append-drop, length-drop}
+use lib.ListN.{length, take, drop, getD, set, take-append-drop}
 use lib.Seq.{drop-cons, take-suc-set, drop-set-lt, drop-drop}
 use Rattle.hex.specs.declared.Case.{Case}
-use Rattle.hex.specs.declared.Bytes.{Bytes}
 use Rattle.hex.specs.declared.Bytes.the-variants.{Are, NotHex, Over}
 use Rattle.hex.specs.Hex.{ten, nibble, hexDigits, bytesOf, bytesRead}
 use Rattle.reading.proofs.Tests.{and-true}

@@ -20,8 +20,8 @@ pub enum Bytes {
 }
 
 // The letter that stands for ten.
-fn ten(case: Case) -> u8
-    ensures { λ r. ⌜ r ≡ tenOf case ⌝ }
+pub fn ten(case: Case) -> u8
+    ensures { λ r. ⌜ (r ≡ tenOf case) × (r ≤ 97) ⌝ }
 {
     match case {
         Case::Lower => b'a',

@@ -1,71 +1,27 @@
-// Interrupts set up, by `set_irq_params`: which are let through in a mode, and which pins tell them.
+// Interrupts set up: `set_irq_params`.
 ghost use mathlib.Core.Path.{_≡_};
 ghost use mathlib.Core.List.{[]};
 ghost use Prim.Native.Nat.{_+_, _≤_};
 ghost use lib.ListN.{length};
-ghost use Rattle.sheets.specs.Interrupts.{shutOut, mappingKeeps, mapping, clearing};
 ghost use Rattle.params.specs.Answers.{tellsDone, usedDone};
 ghost use Rattle.mode_codes.specs.Modes.{activity};
 ghost use Rattle.log.specs.Steps.{Done};
 ghost use Rattle.admit.specs.Call.{Meets};
-ghost use Rattle.operations.specs.Interrupts.{preparing, activityOf, irqRefusal, setIrq};
+ghost use Rattle.operations.specs.Interrupts.{preparing, setIrq};
 use admit::admit;
 use bus::modify_register;
 use bus::write_register;
-use mode_codes::ModeCode;
+use irq_modes::dio_mapping_1;
+use irq_modes::dio_mapping_1_mask;
+use irq_modes::irq_flags;
+use irq_modes::irq_flags_mask;
+use irq_modes::mode_or_sleep;
+use irq_modes::set_refusal;
 use mode_codes::radio_mode;
 use params::answers::Answer;
-use params::mod_params::RadioError;
 use params::mod_params::RadioMode;
 use params::mod_params::Verdict;
 use registers::radio_kind_params::Register;
-
-// A 1 shuts an interrupt out.
-fn irq_flags_mask(mode: RadioMode) -> u8
-    ensures { λ r. ⌜ r ≡ shutOut (activity mode) ⌝ }
-{
-    match mode {
-        RadioMode::Transmit => 0xf7,
-        RadioMode::Receive(_) => 0x0f,
-        RadioMode::ChannelActivityDetection => 0xfa,
-        _ => 0xff,
-    }
-}
-
-// The pins whose mapping stays: all but DIO0, and in receive, where DIO3 tells a header, all but these two.
-fn dio_mapping_1_mask(mode: RadioMode) -> u8
-    ensures { λ r. ⌜ r ≡ mappingKeeps (activity mode) ⌝ }
-{
-    match mode {
-        RadioMode::Transmit => 0x3f,
-        RadioMode::Receive(_) => 0x3c,
-        RadioMode::ChannelActivityDetection => 0x3f,
-        _ => 0x3f,
-    }
-}
-
-fn dio_mapping_1(mode: RadioMode) -> u8
-    ensures { λ r. ⌜ r ≡ mapping (activity mode) ⌝ }
-{
-    match mode {
-        RadioMode::Transmit => 0x40,
-        RadioMode::Receive(_) => 0x01,
-        RadioMode::ChannelActivityDetection => 0x80,
-        _ => 0xc0,
-    }
-}
-
-// A 1 clears a flag, so that the Rust's 0 clears none.
-fn irq_flags(mode: RadioMode) -> u8
-    ensures { λ r. ⌜ r ≡ clearing (activity mode) ⌝ }
-{
-    match mode {
-        RadioMode::Transmit => 0x00,
-        RadioMode::Receive(_) => 0x00,
-        RadioMode::ChannelActivityDetection => 0x00,
-        _ => 0xff,
-    }
-}
 
 fn write_irq_params(image: &mut [u8], log: &mut [u8], at: usize, mode: RadioMode) -> usize
     requires { ⌜ (at + 12 ≤ length (now log)) × (length (now image) ≡ 128) ⌝ }
@@ -88,27 +44,6 @@ fn write_irq_params(image: &mut [u8], log: &mut [u8], at: usize, mode: RadioMode
         dio_mapping_1(mode),
     );
     write_register(image, log, at, Register::RegIrqFlags, irq_flags(mode))
-}
-
-// Without a mode interrupts are those of Sleep: the Rust's last arm has both.
-pub fn mode_or_sleep(code: ModeCode) -> RadioMode
-    ensures { λ r. ⌜ activity r ≡ activityOf code ⌝ }
-{
-    match code {
-        ModeCode::Named(mode) => mode,
-        ModeCode::NoMode => RadioMode::Sleep,
-        ModeCode::NoCase => RadioMode::Sleep,
-    }
-}
-
-fn set_refusal(code: ModeCode) -> Verdict
-    ensures { λ r. ⌜ r ≡ irqRefusal code ⌝ }
-{
-    match code {
-        ModeCode::Named(_) => Verdict::Clear,
-        ModeCode::NoMode => Verdict::Clear,
-        ModeCode::NoCase => Verdict::Refused(RadioError::InvalidConfiguration),
-    }
 }
 
 pub fn set_irq_params(

@@ -1,17 +1,13 @@
 -- What demand 3 speaks of is what the calls do: the image of whole programming's outcome, and that 24 and 26 alone can still refuse an accepted link.
 -- Assumes nothing.
-use mathlib.Core.Path.{_≡_, refl, sym, ap, _∙_}
-use mathlib.Core.Bool.{Bool, true, false, _&&_}
+use mathlib.Core.Path.{_≡_, refl, ap}
 use mathlib.Core.List.{List, []}
-use Prim.Native.Nat.{ℕ, _+_, _*_, _%_, _≤_}
-use native.Mathlib.Omega.{arith}
+use Prim.Native.Nat.{ℕ}
 use lib.Dec.{T}
-use lib.ListN.{length}
 use Rattle.sheets.proofs.Sweep.{both}
 use Rattle.params.specs.declared.mod_params.Link.{Link}
 use Rattle.params.specs.declared.mod_params.Verdict.{Verdict}
 use Rattle.params.specs.declared.mod_params.Verdict.the-variants.{Clear, Refused}
-use Rattle.params.specs.Errors.{told}
 use Rattle.registers.specs.declared.board.Board.{Board}
 use Rattle.refusals.specs.Refusals.{linkRefusal}
 use Rattle.log.specs.Steps.{endAfter}

@@ -1,8 +1,8 @@
 -- Demand 3, for both variants and every board: one link, one image.
 -- The hypotheses are that an image has 128 bytes and that links are accepted. Assumes nothing.
-use mathlib.Core.Path.{_≡_, refl, sym, ap, subst, _∙_}
+use mathlib.Core.Path.{_≡_, refl, sym, ap, _∙_}
 use mathlib.Core.Logic.{_↔_}
-use mathlib.Core.List.{List, []}
+use mathlib.Core.List.{List}
 use Prim.Native.Nat.{ℕ}
 use native.Mathlib.Omega.{arith}
 use borrow.Author.Tests.{eq-eqb}
@@ -14,7 +14,7 @@ use Rattle.params.specs.declared.mod_params.RadioError.the-variants.{NotALink}
 use Rattle.params.specs.Errors.{Told, told, refusal}
 use Rattle.params.specs.Answers.{linkValues}
 use Rattle.registers.specs.declared.board.Board.{Board}
-use Rattle.page.specs.Page.{Image, Reading, Reading.found, Reading.notASetting, program, canonical, read}
+use Rattle.page.specs.Page.{Image, Reading, Reading.found, Reading.notASetting, program, read}
 use Rattle.page.proofs.Demand3 as general
 use Rattle.lora_page.specs.Links.{Accepted, plain}
 use Rattle.lora_page.specs.Lora.{page}

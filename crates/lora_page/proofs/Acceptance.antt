@@ -7,7 +7,7 @@ use mathlib.Core.List.{List, [], _∷_}
 use Prim.Native.Nat.{ℕ, _+_, _*_, _/_, _≤_, _<_}
 use native.Mathlib.Omega.{arith}
 use borrow.Author.Tests.{leb-true, leb-false, ltb-true, ltb-false, eqb-true, eqb-false}
-use lib.Dec.{T, eqb, leb, ltb, leb→le, le→leb, ltb→lt, lt→ltb, not-T, eqb→eq}
+use lib.Dec.{T, eqb, leb, ltb, leb→le, le→leb, ltb→lt, lt→ltb}
 use Rattle.sheets.specs.declared.Variant.{Variant}
 use Rattle.sheets.specs.declared.Variant.the-variants.{Sx1272, Sx1276}
 use Rattle.sheets.specs.Modem.{bandwidthCodes, hasBandwidth}
@@ -17,7 +17,6 @@ use Rattle.params.specs.declared.mod_params.RadioError.{RadioError}
 use Rattle.params.specs.declared.mod_params.RadioError.the-variants.{InvalidConfiguration, UnavailableSpreadingFactor, UnavailableBandwidth, InvalidBandwidthForFrequency, InvalidSF6ExplicitHeaderRequest, FrequencyOutOfRange}
 use Rattle.params.specs.declared.mod_params.Verdict.{Verdict}
 use Rattle.params.specs.declared.mod_params.Verdict.the-variants.{Clear, Refused}
-use Rattle.params.specs.Errors.{or}
 use Rattle.refusals.specs.Refusals.{unless, named, first, linkVerdicts, linkRefusal}
 use Rattle.lora_page.specs.Links.{clear, accepted}
 

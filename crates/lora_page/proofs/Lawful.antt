@@ -1,26 +1,24 @@
 -- The LoRa page of every board shows a page's laws.
 -- Assumes nothing.
 use mathlib.Core.Path.{_≡_, refl, sym, ap, _∙_}
-use mathlib.Core.Bool.{Bool, true, false, cond}
+use mathlib.Core.Bool.{Bool, true, false}
 use mathlib.Core.List.{List, [], _∷_}
 use Prim.Native.Nat.{ℕ, zero, suc, _+_, _-_, _*_, _/_, _%_, _≤_, _<_}
 use native.Mathlib.Nat.{sub-add-cancel}
 use native.Mathlib.Omega.{arith}
-use lib.Dec.{T, eqb, ltb}
-use lib.ListN.{take, drop}
+use lib.Dec.{T}
 use lib.Bits.{bitAnd, and-comm, and-shifted}
-use lib.IntN.{ℤ}
 use Rattle.sheets.specs.declared.Variant.{Variant}
 use Rattle.sheets.specs.declared.Variant.the-variants.{Sx1272, Sx1276}
 use Rattle.sheets.specs.Frequency.{steps, lowest}
-use Rattle.sheets.specs.Modem.{bandwidths, bandwidthCodes, bandwidthCode, symbolTime, optimize, detectionOptimize, detectionThreshold, invertIq, invertIq2, syncWord}
-use Rattle.sheets.specs.Power.{paConfig, paDac, ocp, clamped}
+use Rattle.sheets.specs.Modem.{bandwidths, symbolTime, optimize, detectionOptimize, detectionThreshold, invertIq, invertIq2, syncWord}
+use Rattle.sheets.specs.Power.{paConfig}
 use Rattle.sheets.proofs.Sweep.{equal, equal₂}
 use Rattle.sheets.proofs.Frequency.{steps-lowest, lowest-lt, steps-fit}
 use Rattle.sheets.proofs.Modem.{optimize-le, code-76, code-72}
 use Rattle.params.specs.declared.mod_params.Link.{Link}
 use Rattle.registers.specs.declared.board.Board.{Board}
-use Rattle.page.specs.Page.{Place, Lawful, Step, Learns, Agree, Clear, apart, canonical, told}
+use Rattle.page.specs.Page.{Place, Lawful, Learns, Agree, Clear, apart, canonical, told}
 use Rattle.lora_page.specs.Links.{link, accepted, plain}
 use Rattle.lora_page.specs.Lora as L
 use Rattle.lora_page.specs.Lora.{is, flagOf, places, blank, pageOf, page}

@@ -3,10 +3,10 @@
 use mathlib.Core.Path.{_≡_, refl, sym, ap, _∙_}
 use mathlib.Core.Bool.{Bool, cond}
 use Prim.Native.Nat.{ℕ, _+_, _<_}
-use lib.Dec.{T, eqb, ltb, eqb→eq, ltb→lt}
-use lib.IntN.{ℤ, pos}
+use lib.Dec.{eqb, ltb, eqb→eq, ltb→lt}
+use lib.IntN.{ℤ}
 use Rattle.sheets.specs.declared.Variant.{Variant}
-use Rattle.sheets.specs.declared.Variant.the-variants.{Sx1272, Sx1276}
+use Rattle.sheets.specs.declared.Variant.the-variants.{Sx1276}
 use Rattle.sheets.specs.Bits.{at}
 use Rattle.sheets.specs.Registers.{PaDacReserved, PaDac, OcpOn, OcpTrim}
 use Rattle.sheets.specs.Power.{clamped, strong, outputs, paConfig, paDac, ocp}

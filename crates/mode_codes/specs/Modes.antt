@@ -3,7 +3,6 @@ use mathlib.Core.List.{List, [], _∷_}
 use Prim.Native.Nat.{ℕ}
 use lib.ListN.{getD}
 use Rattle.sheets.specs.Interrupts.{Activity, Activity.transmitting, Activity.receiving, Activity.detecting, Activity.other}
-use Rattle.params.specs.declared.mod_params.RxMode.{RxMode}
 use Rattle.params.specs.declared.mod_params.RxMode.the-variants.{Single, Continuous, DutyCycle}
 use Rattle.params.specs.declared.mod_params.RadioMode.{RadioMode}
 use Rattle.params.specs.declared.mod_params.RadioMode.the-variants.{Sleep, Standby, FrequencySynthesis, Transmit, Receive, ChannelActivityDetection}

@@ -15,7 +15,7 @@ use Rattle.params.specs.declared.mod_params.Verdict.the-variants.{Clear}
 use Rattle.params.specs.Errors.{or}
 use Rattle.refusals.specs.Refusals.{spreadingFactor, bandwidth, codingRate, flag, spreadingFactorValue, bandwidthValue}
 use Rattle.refusals.proofs.Clear.{passes, both-clear, named-clear}
-use Rattle.operations.specs.Modem.{modulationNamed, modulationHad, modulationRefusal}
+use Rattle.operations.specs.Modem.{modulationHad, modulationRefusal}
 
 pub record InRange (v : Variant) (p : ModulationParams) : Type 0 where
   pub sf : p .«spreading_factor» ≤ 12

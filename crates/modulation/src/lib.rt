@@ -1,7 +1,7 @@
 // Modulation: `set_modulation_params`.
 ghost use mathlib.Core.Path.{_≡_};
 ghost use mathlib.Core.List.{[]};
-ghost use Prim.Native.Nat.{_+_, _*_, _≤_, _<_};
+ghost use Prim.Native.Nat.{_+_, _*_, _≤_};
 ghost use lib.ListN.{length};
 ghost use Rattle.sheets.specs.Modem.{bandwidthCode};
 ghost use Rattle.params.specs.Answers.{tellsDone, usedDone};
@@ -14,6 +14,7 @@ use detection::write_detection;
 use params::answers::Answer;
 use params::mod_params::ModulationParams;
 use params::mod_params::Verdict;
+use records::modulation_records;
 use sheets::Variant;
 
 // Each variant has its own modem registers.
@@ -51,15 +52,6 @@ pub fn write_modulation(
 {
     let at = write_detection(image, log, at, p.spreading_factor);
     write_modem(image, log, at, variant, p)
-}
-
-fn modulation_records(variant: Variant) -> usize
-    ensures { λ r. ⌜ (r ≡ modulationRecords variant) × (r < 256) ⌝ }
-{
-    match variant {
-        Variant::Sx1272 => 7,
-        Variant::Sx1276 => 11,
-    }
 }
 
 fn modulation_refusal(variant: Variant, p: ModulationParams) -> Verdict

@@ -1,5 +1,4 @@
 // Refusals for people: the number, its values and the error's name, as a line.
-ghost use mathlib.Core.List.{_++_};
 ghost use Prim.Native.Nat.{_+_, _≤_};
 ghost use lib.ListN.{length};
 ghost use Rattle.printing.specs.Text.{Appended};

@@ -14,7 +14,7 @@ use Rattle.params.specs.declared.mod_params.PacketParams.{PacketParams}
 use Rattle.params.specs.declared.mod_params.Link.{Link}
 use Rattle.params.specs.declared.mod_params.Verdict.{Verdict}
 use Rattle.params.specs.declared.mod_params.Verdict.the-variants.{Clear}
-use Rattle.params.specs.Errors.{Told, or}
+use Rattle.params.specs.Errors.{or}
 use Rattle.registers.specs.declared.board.Board.{Board}
 use Rattle.mode_codes.specs.declared.RxModeCode.{RxModeCode}
 use Rattle.mode_codes.specs.declared.ModeCode.{ModeCode}

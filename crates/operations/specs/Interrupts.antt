@@ -1,9 +1,8 @@
 -- `set_irq_params`, `process_irq_event`.
-use mathlib.Core.Bool.{Bool, true, false}
-use mathlib.Core.List.{List, [], _∷_, _++_}
+use mathlib.Core.List.{List, [], _∷_}
 use Prim.Native.Nat.{ℕ, zero, suc}
 use lib.ListN.{getD}
-use lib.IntN.{ℤ, pos}
+use lib.IntN.{pos}
 use Rattle.sheets.specs.Registers.{RegIrqFlagsMask, RegIrqFlags, RegDioMapping1}
 use Rattle.sheets.specs.Interrupts.{Activity, Activity.other, Event, Event.nothing, Event.preambleReceived, Event.done, Event.timedOut, Event.channelChecked, shutOut, mappingKeeps, mapping, clearing, event}
 use Rattle.params.specs.declared.mod_params.RadioError.the-variants.{InvalidConfiguration, InvalidRadioMode, ReceiveTimeout}

@@ -4,7 +4,7 @@ use Prim.Native.Nat.{ℕ, _+_, _-_, _/_, _%_}
 use lib.IntN.{ℤ, pos}
 use Rattle.sheets.specs.declared.Variant.{Variant}
 use Rattle.sheets.specs.declared.Variant.the-variants.{Sx1272, Sx1276}
-use Rattle.sheets.specs.Bits.{mask, others, at}
+use Rattle.sheets.specs.Bits.{mask, at}
 use Rattle.sheets.specs.Registers.{RegDetectionOptimize, RegDetectionThreshold, RegModemConfig1, RegModemConfig3, Bw, CodingRate, ImplicitHeaderModeOn, RxPayloadCrcOn, LowDataRateOptimize, AgcAutoOn, SpreadingFactor, RegPreambleMsb, RegPreambleLsb, RegInvertiq, RegInvertiq2}
 use Rattle.sheets.specs.Modem.{bandwidthCode, optimize, detectionKeeps, detectionOptimize, detectionThreshold, invertIq, invertIq2}
 use Rattle.params.specs.declared.mod_params.ModulationParams.{ModulationParams}

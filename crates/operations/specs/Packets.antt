@@ -1,10 +1,10 @@
 -- `set_payload`, `get_rx_payload`, `get_rx_packet_status`.
 use mathlib.Core.Bool.{Bool, true, false}
-use mathlib.Core.List.{List, [], _∷_, _++_}
+use mathlib.Core.List.{List, [], _∷_}
 use Prim.Native.Nat.{ℕ}
 use lib.Dec.{leb}
 use lib.ListN.{length, getD}
-use lib.IntN.{ℤ, pos}
+use lib.IntN.{pos}
 use Rattle.sheets.specs.declared.Variant.{Variant}
 use Rattle.sheets.specs.declared.Variant.the-variants.{Sx1272, Sx1276}
 use Rattle.sheets.specs.Registers.{RegFifoAddrPtr, RegPayloadLength, RegRxNbBytes, RegFifoRxCurrentAddr, RegPktSnrValue, RegPktRssiValue, RegFrfMsb, RegFrfMid, RegFrfLsb}

@@ -2,11 +2,10 @@
 ghost use mathlib.Core.Path.{_≡_};
 ghost use Rattle.sheets.specs.Power.{clamped, paConfig};
 ghost use Rattle.levels.specs.Ranges.{InRange};
+use crate::PA_BOOST;
 use levels::clamp;
 use levels::level;
 use sheets::Variant;
-
-const PA_BOOST: u8 = 0x80;
 
 // In dBm: PA_BOOST has 2 to 20, RFO -1 to 14.
 pub fn clamped_power(p_out: i32, tx_boost: bool) -> i32

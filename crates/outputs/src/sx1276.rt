@@ -2,6 +2,7 @@
 ghost use mathlib.Core.Path.{_≡_};
 ghost use Rattle.sheets.specs.Power.{clamped, ocp, paConfig};
 ghost use Rattle.levels.specs.Ranges.{InRange};
+use crate::PA_BOOST;
 use levels::clamp;
 use levels::level;
 use sheets::Variant;
@@ -10,8 +11,6 @@ use sheets::Variant;
 const OCP_TRIM_240MA: u8 = 0x3b;
 
 const OCP_TRIM_100MA: u8 = 0x2b;
-
-const PA_BOOST: u8 = 0x80;
 
 const MAX_POWER7_NO_PA_BOOST: u8 = 0x70;
 

@@ -1,6 +1,6 @@
 -- Bits beside a mask: what writing them again does, and what a reader sees of them.
 -- Assumes nothing.
-use mathlib.Core.Path.{_≡_, ap, _∙_}
+use mathlib.Core.Path.{_≡_, ap}
 use Prim.Native.Nat.{ℕ, _+_, _-_, _<_}
 use native.Mathlib.Omega.{arith}
 use lib.Bits.{bitAnd, bitOr, and-comm, and-self, and-zero-r, and-le-l, or-disjoint}

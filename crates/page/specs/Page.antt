@@ -1,9 +1,9 @@
 -- A page of registers: settings that are programmed into an image of 128 bytes and read back from it.
 -- What follows for every page is in proofs/Demand3.antt and proofs/Prefix.antt; a page has only to be `Lawful`.
 use mathlib.Core.Path.{_≡_}
-use mathlib.Core.Bool.{Bool, true, false, cond, _&&_, not}
+use mathlib.Core.Bool.{Bool, true, false, _&&_, not}
 use mathlib.Core.List.{List, [], _∷_}
-use Prim.Native.Nat.{ℕ, zero, suc, _+_, _-_, _<_}
+use Prim.Native.Nat.{ℕ, _+_, _-_, _<_}
 use lib.Dec.{T, eqb, ltb}
 use lib.ListN.{length, getD, set, take}
 use lib.Bits.{bitAnd}

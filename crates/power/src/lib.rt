@@ -1,7 +1,7 @@
 // Transmit power, and the time in which the amplifier comes up: `set_tx_power_and_ramp_time`.
 ghost use mathlib.Core.Path.{_≡_};
 ghost use mathlib.Core.List.{[]};
-ghost use Prim.Native.Nat.{_+_, _*_, _≤_, _<_};
+ghost use Prim.Native.Nat.{_+_, _*_, _≤_};
 ghost use lib.ListN.{length};
 ghost use Rattle.params.specs.Answers.{tellsDone, usedDone};
 ghost use Rattle.log.specs.Steps.{Done};
@@ -13,6 +13,7 @@ use bus::write_register;
 use params::answers::Answer;
 use params::mod_params::Verdict;
 use ramps::ramp_value;
+use records::power_records;
 use registers::board::Board;
 use registers::radio_kind_params::Register;
 use sheets::Variant;
@@ -49,15 +50,6 @@ pub fn write_power(
     let at = set_tx_power(image, log, at, variant, p_out, board.tx_boost);
     let val = ramp_value(variant, is_tx_prep);
     write_register(image, log, at, Register::RegPaRamp, val)
-}
-
-fn power_records(variant: Variant) -> usize
-    ensures { λ r. ⌜ (r ≡ powerRecords variant) × (r < 256) ⌝ }
-{
-    match variant {
-        Variant::Sx1272 => 3,
-        Variant::Sx1276 => 4,
-    }
 }
 
 pub fn set_tx_power_and_ramp_time(

@@ -2,10 +2,10 @@
 ghost use mathlib.Core.Path.{_≡_};
 ghost use Prim.Native.Nat.{_+_, _*_, _≤_, _<_};
 ghost use lib.ListN.{length};
-ghost use Rattle.hex.specs.Hex.{ten as tenOf};
 ghost use Rattle.printing.specs.Text.{Appended};
 ghost use Rattle.printing.specs.Numbers.{hexDigit, hex as hexOf};
 use hex::Case;
+use hex::ten;
 
 pub fn put(text: &[u8], out: &mut [u8], at: usize) -> usize
     requires { ⌜ at + length (now text) ≤ length (now out) ⌝ }
@@ -19,16 +19,6 @@ fn hex_digit(d: u8, a: u8) -> u8
     ensures { λ r. ⌜ r ≡ hexDigit a d ⌝ }
 {
     if d < 10 { b'0' + d } else { d - 10 + a }
-}
-
-// The letter that stands for ten.
-fn ten(case: Case) -> u8
-    ensures { λ r. ⌜ (r ≡ tenOf case) × (r ≤ 97) ⌝ }
-{
-    match case {
-        Case::Lower => b'a',
-        Case::Upper => b'A',
-    }
 }
 
 // Two digits a byte.

@@ -44,6 +44,39 @@ fn receive(image: &mut [u8], fifo: &mut [u8], log: &mut [u8], out: &mut [u8]) ->
     answers::received(a, &buffer, log, out)
 }
 
+// The calls that are lent no FIFO and no buffer.
+fn act_on_registers(
+    o: Operation,
+    args: &[u8],
+    board: Board,
+    image: &mut [u8],
+    log: &mut [u8],
+    out: &mut [u8],
+) -> usize
+    requires { ⌜ (length (now log) ≤ 96) × (2048 ≤ length (now out)) ⌝ }
+    ensures { λ r. ⌜ r ≤ 1200 ⌝ }
+{
+    let v = board.variant;
+    match o {
+        Operation::CreateModulationParams => {
+            answers::modulation(acts::create_modulation(args, TAB, v), out)
+        }
+        Operation::CreatePacketParams => answers::framing(acts::create_packet(args, TAB), out),
+        Operation::ReadLink => answers::link(link::read_link(image, board), out),
+        Operation::GetRxPacketStatus => {
+            let a = sx127x::get_rx_packet_status(image, log, 0, v);
+            answers::measured(a, log, out)
+        }
+        Operation::ProcessIrqEvent => {
+            answers::event(acts::event(args, TAB, image, log, 0), log, out)
+        }
+        _ => {
+            let a = acts::done(o, args, TAB, board, image, log, 0);
+            answers::done(a, log, out)
+        }
+    }
+}
+
 fn act_named(
     o: Operation,
     args: &[u8],
@@ -57,27 +90,10 @@ fn act_named(
 {
     // the longest call appends 30 records
     let mut log = [0u8; 96];
-    let v = board.variant;
     match o {
-        Operation::CreateModulationParams => {
-            answers::modulation(acts::create_modulation(args, TAB, v), out)
-        }
-        Operation::CreatePacketParams => answers::framing(acts::create_packet(args, TAB), out),
-        Operation::ReadLink => answers::link(link::read_link(image, board), out),
         Operation::SetPayload => answers::done(send(args, image, fifo, &mut log), &log, out),
         Operation::GetRxPayload => receive(image, fifo, &mut log, out),
-        Operation::GetRxPacketStatus => {
-            let a = sx127x::get_rx_packet_status(image, &mut log, 0, v);
-            answers::measured(a, &log, out)
-        }
-        Operation::ProcessIrqEvent => {
-            answers::event(acts::event(args, TAB, image, &mut log, 0), &log, out)
-        }
-        _ => answers::done(
-            acts::done(o, args, TAB, board, image, &mut log, 0),
-            &log,
-            out,
-        ),
+        _ => act_on_registers(o, args, board, image, &mut log, out),
     }
 }
 

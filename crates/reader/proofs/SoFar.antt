@@ -2,7 +2,7 @@
 -- Assumes nothing.
 use mathlib.Core.Path.{_≡_, refl, sym, ap, subst, _∙_}
 use mathlib.Core.Logic.{_↔_}
-use mathlib.Core.Bool.{Bool, true, false, _&&_}
+use mathlib.Core.Bool.{Bool, true, false}
 use mathlib.Core.List.{List, [], _∷_}
 use Prim.Native.Nat.{ℕ, zero, suc, _≤_, _<_}
 use native.Mathlib.Omega.{arith}
@@ -16,8 +16,6 @@ use Rattle.sheets.specs.Reader.{always, readerOrder}
 use Rattle.sheets.proofs.Sweep.{both, joined}
 use Rattle.params.specs.declared.mod_params.Link.{Link}
 use Rattle.registers.specs.declared.board.Board.{Board}
-use Rattle.log.specs.Steps.{imageAfter}
-use Rattle.operations.specs.Programming.{programming}
 use Rattle.page.specs.Page.{Image, Place, Reading.found, Reading.notASetting, Same, nowhere, find, improved, program, guess, first, fits, read}
 use Rattle.page.proofs.Prefix.{guess-next, fits-first, refused-early, found-last}
 use Rattle.page.proofs.Find.{find-own}

@@ -1,6 +1,6 @@
 -- Every register lies in the image.
 -- Assumes nothing.
-use Prim.Native.Nat.{ℕ, _<_}
+use Prim.Native.Nat.{_<_}
 use lib.Dec.{lit<}
 use Rattle.registers.specs.declared.radio_kind_params.Register.{Register}
 use Rattle.registers.specs.declared.radio_kind_params.Register.the-variants.{RegFifo, RegOpMode, RegFrfMsb, RegFrfMid, RegFrfLsb, RegPaConfig, RegPaRamp, RegOcp, RegLna, RegFifoAddrPtr, RegFifoTxBaseAddr, RegFifoRxBaseAddr, RegFifoRxCurrentAddr, RegIrqFlagsMask, RegIrqFlags, RegRxNbBytes, RegPktSnrValue, RegPktRssiValue, RegModemConfig1, RegModemConfig2, RegSymbTimeoutLsb, RegPreambleMsb, RegPreambleLsb, RegPayloadLength, RegModemConfig3, RegDetectionOptimize, RegInvertiq, RegDetectionThreshold, RegSyncWord, RegInvertiq2, RegDioMapping1, RegPaDacSX1272, RegPaDacSX1276, RegTcxoSX1276, RegTcxoSX1272}

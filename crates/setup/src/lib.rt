@@ -1,7 +1,7 @@
 // Setting up: `init_lora`.
 ghost use mathlib.Core.Path.{_≡_};
 ghost use mathlib.Core.List.{[]};
-ghost use Prim.Native.Nat.{_+_, _*_, _≤_, _<_};
+ghost use Prim.Native.Nat.{_+_, _*_, _≤_};
 ghost use lib.ListN.{length};
 ghost use Rattle.sheets.specs.Modem.{syncWord};
 ghost use Rattle.params.specs.Answers.{tellsDone, usedDone};
@@ -14,6 +14,7 @@ use bases::write_bases;
 use bus::write_register;
 use params::answers::Answer;
 use params::mod_params::Verdict;
+use records::init_records;
 use registers::board::Board;
 use registers::radio_kind_params::Register;
 use sheets::Variant;
@@ -72,12 +73,6 @@ pub fn write_init(
         syncword(is_public_network),
     );
     write_bases(image, log, at)
-}
-
-fn init_records(tcxo_used: bool) -> usize
-    ensures { λ r. ⌜ (r ≡ initRecords «tcxo_used») × (r < 256) ⌝ }
-{
-    if tcxo_used { 4 } else { 3 }
 }
 
 pub fn init_lora(

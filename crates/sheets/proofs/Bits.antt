@@ -1,7 +1,7 @@
 -- Laws of fields: a field that is put into a byte reads back, and leaves every other field as it was.
 -- Assumes nothing.
 use mathlib.Core.Path.{_≡_, refl, sym, ap, _∙_}
-use Prim.Native.Nat.{ℕ, zero, suc, _+_, _-_, _*_, _/_, _%_, _^_, _<_, min, max}
+use Prim.Native.Nat.{ℕ, zero, suc, _-_, _*_, _/_, _%_, _^_, _<_}
 use native.Mathlib.Omega.{arith}
 use lib.Arith.{bin-ind}
 use lib.Pow.{shl-shr}

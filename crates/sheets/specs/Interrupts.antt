@@ -1,5 +1,5 @@
 -- Interrupts (sheets: RegIrqFlagsMask, RegIrqFlags, RegDioMapping1): which are let through, which pins tell them, and what they mean.
-use mathlib.Core.Bool.{Bool, true, false, cond}
+use mathlib.Core.Bool.{Bool, cond}
 use Prim.Native.Nat.{ℕ, _+_, _-_}
 use lib.Dec.{eqb}
 use lib.Bits.{bitAnd}

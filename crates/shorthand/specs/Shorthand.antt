@@ -1,13 +1,12 @@
 -- Short words for the operations.
-use mathlib.Core.Bool.{cond}
-use mathlib.Core.List.{List, [], _∷_, _++_}
+use mathlib.Core.List.{List}
 use Prim.Native.Nat.{ℕ}
-use Rattle.reading.specs.Words.{ascii, alike}
+use Rattle.reading.specs.Words.{ascii}
 use Rattle.commands.specs.declared.Operation.{Operation}
 use Rattle.commands.specs.declared.Operation.the-variants.{InitLora, CreateModulationParams, CreatePacketParams, Reset, SetStandby, SetSleep, SetTxRxBufferBaseAddress, SetTxPowerAndRampTime, SetModulationParams, SetPacketParams, SetChannel, SetPayload, DoTx, DoRx, GetRxPayload, GetRxPacketStatus, DoCad, SetIrqParams, ProcessIrqEvent, SetTxContinuousWaveMode, Program, ReadLink}
 use Rattle.commands.specs.declared.Named.{Named}
-use Rattle.commands.specs.declared.Named.the-variants.{Known}
-use Rattle.commands.specs.Operations.{modes, packets, settings, operationOf}
+use Rattle.commands.specs.declared.Named.the-variants.{Known, Unknown}
+use Rattle.commands.specs.Operations.{operations, among, operationOf}
 
 abbrev pub word : Operation → List ℕ
 word InitLora = ascii "init"
@@ -33,11 +32,11 @@ word SetTxContinuousWaveMode = ascii "carrier"
 word Program = ascii "program"
 word ReadLink = ascii "read"
 
--- the first of some operations that has this word
-abbrev pub among : List ℕ → List Operation → Named → Named
-among w [] rest = rest
-among w (o ∷ os) rest = cond (alike w (word o)) (Known o) (among w os rest)
+-- one name, or where it names nothing the other
+abbrev pub otherwise : Named → Named → Named
+otherwise (Known o) n = Known o
+otherwise Unknown n = n
 
 -- by its word, or else by its own name
 unfoldable pub commandOf : List ℕ → Named
-commandOf w = among w (modes ++ (packets ++ settings)) (operationOf w)
+commandOf w = otherwise (among word w operations) (operationOf w)

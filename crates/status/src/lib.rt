@@ -10,12 +10,12 @@ ghost use Rattle.params.specs.Errors.{told};
 ghost use Rattle.log.specs.Steps.{Done, endAfter};
 ghost use Rattle.admit.specs.Call.{Meets};
 ghost use Rattle.operations.specs.Packets.{frfRead, measuring, tuned, measured, getStatus};
-ghost use Rattle.operations.proofs.Counts.{measuringRecords};
 use admit::admit;
 use bus::read_register;
 use params::answers::StatusAnswer;
 use params::mod_params::PacketStatus;
 use params::mod_params::Verdict;
+use records::status_records;
 use registers::radio_kind_params::Register;
 use sheets::Variant;
 use units::Steps;
@@ -56,15 +56,6 @@ fn measure(image: &[u8], log: &mut [u8], at: usize, variant: Variant) -> PacketS
     let packet_rssi = read_register(image, log, at, Register::RegPktRssiValue);
     let offset = rssi_offset(image, log, at + 3, variant);
     signal::packet_status(offset, packet_snr, packet_rssi)
-}
-
-fn status_records(variant: Variant) -> usize
-    ensures { λ r. ⌜ (r ≡ measuringRecords variant) × (r < 256) ⌝ }
-{
-    match variant {
-        Variant::Sx1272 => 2,
-        Variant::Sx1276 => 5,
-    }
 }
 
 pub fn get_rx_packet_status(

@@ -1,5 +1,5 @@
 -- What the reader tests at a register: that the guess from the values so far is accepted, and that programming it leaves them as they are.
-use mathlib.Core.Bool.{Bool, true, false, _&&_}
+use mathlib.Core.Bool.{Bool, true, _&&_}
 use mathlib.Core.List.{List, [], _∷_}
 use Prim.Native.Nat.{ℕ}
 use lib.Dec.{eqb}

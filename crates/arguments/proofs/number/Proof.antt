@@ -1,7 +1,6 @@
 -- `arguments::number` meets its contract: each arm is the definition's case, and at most the largest.
 -- Assumes nothing.
 use borrow.Author.Needs.{needs}
-use mathlib.Core.Path.{_≡_}
 use native.Mathlib.Omega.{arith}
 use Rattle.arguments.specs.Arguments.{argument}
 use Rattle.decimals.proofs.Valued.{within}

@@ -1,7 +1,6 @@
 -- `arguments::power` meets its contract: each arm is the definition's case.
 -- Assumes nothing.
 use borrow.Author.Needs.{needs}
-use mathlib.Core.Path.{_≡_}
 use Prim.Native.Nat.{_<_}
 use lib.Signed.{mag}
 use mir.Syntax.{w32}

@@ -2,7 +2,6 @@
 -- Assumes nothing.
 use borrow.Author.Needs.{needs}
 use Rattle.printing.proofs.Appending.{nothing}
-use Rattle.printing.proofs.Appending.{then, same}
 use native.Mathlib.Omega.{arith}
 use Rattle.board_lines.proofs.put_boost.Statement.{statement}
 use Rattle.board_lines.proofs.put_boost.Tie as tie

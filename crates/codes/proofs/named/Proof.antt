@@ -1,6 +1,5 @@
 -- `codes::named` meets its contract: each test decides one bound.
 -- Assumes nothing.
-use borrow.Author.Needs.{needs}
 use borrow.Author.Tests.{le-leb, lt-leb}
 use Rattle.codes.proofs.named.Statement.{statement}
 use Rattle.codes.proofs.named.Tie as tie

@@ -1,7 +1,6 @@
 -- `decimals::below_zero` meets its contract: a number of at most 2 ^ 31 fits behind a minus sign.
 -- Assumes nothing.
 use borrow.Author.Needs.{needs}
-use mathlib.Core.Path.{_≡_}
 use native.Mathlib.Omega.{arith}
 use Prim.Native.Nat.{_≤_}
 use mir.Syntax.{w32, w64}

@@ -1,7 +1,6 @@
 -- `decimals::from_zero` meets its contract: a number below 2 ^ 31 is itself in 32 bits.
 -- Assumes nothing.
 use borrow.Author.Needs.{needs}
-use mathlib.Core.Path.{_≡_}
 use native.Mathlib.Omega.{arith}
 use Prim.Native.Nat.{_≤_}
 use mir.Syntax.{w32}

@@ -1,6 +1,5 @@
 -- `decimals::is_digit` meets its contract: the two tests are the definition's.
 -- Assumes nothing.
-use borrow.Author.Needs.{needs}
 use borrow.Author.Tests.{lt-leb, le-leb}
 use Rattle.decimals.proofs.is_digit.Statement.{statement}
 use Rattle.decimals.proofs.is_digit.Tie as tie

@@ -1,8 +1,7 @@
 -- `decimals::read_signed` meets its contract: the first byte decides.
 -- Assumes nothing.
 use borrow.Author.Needs.{needs}
-use mathlib.Core.Path.{_≡_, sym, ap, _∙_}
-use native.Mathlib.Omega.{arith}
+use mathlib.Core.Path.{ap, _∙_}
 use denote.Ref.{now}
 use Rattle.reading.proofs.Parted.{from-on}
 use Rattle.decimals.specs.Decimal.{positive, negated}

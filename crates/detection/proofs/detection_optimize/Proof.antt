@@ -1,6 +1,5 @@
 -- `detection::detection_optimize` meets its contract: spreading factor 6, and every other.
 -- Assumes nothing.
-use borrow.Author.Needs.{needs}
 use borrow.Author.Tests.{ne-eqb}
 use Rattle.detection.proofs.detection_optimize.Statement.{statement}
 use Rattle.detection.proofs.detection_optimize.Tie as tie

@@ -1,6 +1,5 @@
 -- `detection::detection_threshold` meets its contract: spreading factor 6, and every other.
 -- Assumes nothing.
-use borrow.Author.Needs.{needs}
 use borrow.Author.Tests.{ne-eqb}
 use Rattle.detection.proofs.detection_threshold.Statement.{statement}
 use Rattle.detection.proofs.detection_threshold.Tie as tie

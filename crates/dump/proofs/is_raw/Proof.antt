@@ -6,10 +6,10 @@ use Rattle.dump.specs.Dump.{couldBeHex, isRaw}
 use Rattle.reading.proofs.Tests.{passes, fails}
 use Rattle.reading.specs.Words.{all}
 use denote.Ref.{now}
-use lib.ListN.{length, drop, getD, drop-of-length-le}
-use Prim.Native.Nat.{_+_, _-_, _≤_, _<_}
-use mathlib.Core.Path.{_≡_, refl, sym, ap, _∙_}
-use borrow.Author.Tests.{eq-eqb, ne-eqb, le-leb, lt-leb}
+use lib.ListN.{length, drop, drop-of-length-le}
+use Prim.Native.Nat.{_-_, _≤_}
+use mathlib.Core.Path.{_≡_, refl, sym, _∙_}
+use borrow.Author.Tests.{eq-eqb, ne-eqb}
 use native.Mathlib.Omega.{arith}
 use Rattle.dump.proofs.is_raw.Statement.{statement}
 use Rattle.dump.proofs.is_raw.Tie as tie

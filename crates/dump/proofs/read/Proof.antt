@@ -3,9 +3,8 @@
 use borrow.Author.Needs.{needs}
 use Rattle.dump.proofs.Turns.{copied, raw-size}
 use denote.Ref.{now}
-use borrow.Author.Tests.{eq-eqb, ne-eqb, le-leb, lt-leb}
 use native.Mathlib.Omega.{arith}
-use mathlib.Core.Path.{_≡_, refl, sym, ap, _∙_}
+use mathlib.Core.Path.{refl, sym, _∙_}
 use Rattle.dump.proofs.read.Statement.{statement}
 use Rattle.dump.proofs.read.Tie as tie
 

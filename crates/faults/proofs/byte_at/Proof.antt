@@ -3,7 +3,7 @@
 use borrow.Author.Needs.{needs}
 use denote.Ref.{now}
 use Rattle.reading.proofs.Tests.{past}
-use mathlib.Core.Path.{_≡_, refl, sym, ap, _∙_}
+use mathlib.Core.Path.{sym}
 use Rattle.faults.proofs.byte_at.Statement.{statement}
 use Rattle.faults.proofs.byte_at.Tie as tie
 

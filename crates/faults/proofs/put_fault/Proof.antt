@@ -1,7 +1,7 @@
 -- `faults::put_fault` meets its contract: each arm is the definition's case.
 -- Assumes nothing.
 use borrow.Author.Needs.{needs}
-use Rattle.printing.proofs.Appending.{then, same}
+use Rattle.printing.proofs.Appending.{then}
 use native.Mathlib.Omega.{arith}
 use Rattle.printing.proofs.Appending.{nothing}
 use Rattle.faults.proofs.put_fault.Statement.{statement}

@@ -1,11 +1,10 @@
 -- `framing::write_packet` meets its contract: preamble, framing and inversion, joined.
 -- Assumes nothing.
 use borrow.Author.Needs.{needs}
-use mathlib.Core.Path.{_≡_, _∙_}
-use Prim.Native.Nat.{_+_, _*_}
+use mathlib.Core.Path.{_∙_}
 use native.Mathlib.Omega.{arith}
 use Rattle.log.proofs.Runs.{then}
-use Rattle.operations.proofs.Counts.{framingRecords, framing-count}
+use Rattle.operations.proofs.Counts.{framing-count}
 use Rattle.framing.proofs.write_packet.Statement.{statement}
 use Rattle.framing.proofs.write_packet.Tie as tie
 

@@ -3,7 +3,7 @@
 use borrow.Author.Needs.{needs}
 use Rattle.reading.proofs.Tests.{past}
 use Rattle.sheets.specs.Modem.{bandwidths}
-use mathlib.Core.Path.{_≡_, refl, sym, ap, _∙_}
+use mathlib.Core.Path.{sym}
 use Rattle.frequencies.proofs.hertz_of.Statement.{statement}
 use Rattle.frequencies.proofs.hertz_of.Tie as tie
 

@@ -3,8 +3,8 @@
 use borrow.Author.Needs.{needs}
 use Rattle.frequencies.specs.Frequencies.{kilohertz}
 use mathlib.Core.List.{append-nil}
-use mathlib.Core.Path.{_≡_, refl, sym, ap, _∙_}
-use borrow.Author.Tests.{eq-eqb, ne-eqb, lt-ltb, le-ltb}
+use mathlib.Core.Path.{sym}
+use borrow.Author.Tests.{eq-eqb, ne-eqb}
 use Rattle.printing.proofs.Appending.{then, same}
 use native.Mathlib.Omega.{arith}
 use Rattle.frequencies.proofs.put_kilohertz.Statement.{statement}

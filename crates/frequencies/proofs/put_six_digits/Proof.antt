@@ -1,8 +1,7 @@
 -- `frequencies::put_six_digits` meets its contract: two digits at a time.
 -- Assumes nothing.
 use borrow.Author.Needs.{needs}
-use Rattle.printing.proofs.Appending.{then, same}
-use native.Mathlib.Omega.{arith}
+use Rattle.printing.proofs.Appending.{then}
 use Rattle.frequencies.proofs.put_six_digits.Statement.{statement}
 use Rattle.frequencies.proofs.put_six_digits.Tie as tie
 

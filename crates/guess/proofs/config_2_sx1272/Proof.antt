@@ -1,7 +1,6 @@
 -- `guess::config_2_sx1272` meets its contract: the bits beside those that stay.
 -- Assumes nothing.
-use borrow.Author.Needs.{needs}
-use mathlib.Core.Path.{_≡_, refl, sym, ap, _∙_}
+use mathlib.Core.Path.{refl}
 use native.Mathlib.Omega.{arith}
 use Rattle.lora_page.proofs.Lawful.{same-link}
 use Rattle.guess.proofs.Bytes.{sf-72}

@@ -5,7 +5,7 @@ use Rattle.hex.proofs.is_hex.Statement.{statement}
 use Rattle.hex.proofs.is_hex.Tie as tie
 
 returns : tie.Need-returns
-returns c = rw (← c .before .ten .ensures) (c .hex-digits .ensures)
+returns c = rw (← c .before .ten .ensures .0) (c .hex-digits .ensures)
 
 pub is-hex-spec : {M : Type 1} → statement M
 is-hex-spec = tie.close (tie.spec (λ c κs. search needs) (λ c κs. search needs) returns)

@@ -1,6 +1,5 @@
 -- `hex::is_letter` meets its contract: the two tests are the definition's.
 -- Assumes nothing.
-use borrow.Author.Needs.{needs}
 use borrow.Author.Tests.{lt-leb, le-leb}
 use Rattle.hex.proofs.is_letter.Statement.{statement}
 use Rattle.hex.proofs.is_letter.Tie as tie

@@ -1,7 +1,7 @@
 -- `hex::is_nibble` meets its contract: either test is the definition's.
 -- Assumes nothing.
 use borrow.Author.Needs.{needs}
-use mathlib.Core.Path.{_≡_, sym}
+use mathlib.Core.Path.{sym}
 use Rattle.hex.proofs.is_nibble.Statement.{statement}
 use Rattle.hex.proofs.is_nibble.Tie as tie
 

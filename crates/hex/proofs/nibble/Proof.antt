@@ -1,7 +1,7 @@
 -- `hex::nibble` meets its contract: each answer is the definition's case, and at most 15.
 -- Assumes nothing.
 use borrow.Author.Needs.{needs}
-use mathlib.Core.Path.{_≡_, sym, _∙_}
+use mathlib.Core.Path.{sym, _∙_}
 use native.Mathlib.Omega.{arith}
 use Prim.Native.Nat.{_-_, _≤_}
 use Rattle.hex.proofs.Pairs.{bounds}

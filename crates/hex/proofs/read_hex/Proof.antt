@@ -1,7 +1,7 @@
 -- `hex::read_hex` meets its contract: the tests are the definition's, and `decode` stores what the text says.
 -- Assumes nothing.
 use borrow.Author.Needs.{needs}
-use mathlib.Core.Path.{_≡_, refl, sym, _∙_}
+use mathlib.Core.Path.{_≡_, sym, _∙_}
 use mathlib.Core.Bool.{Bool}
 use native.Mathlib.Omega.{arith}
 use Prim.Native.Nat.{_/_}
@@ -13,7 +13,7 @@ use Rattle.hex.proofs.read_hex.Statement.{statement}
 use Rattle.hex.proofs.read_hex.Tie as tie
 
 tested : (c : tie.After-hex-digits) (t : Bool) → c .hex-digits .result ≡ t → let a = c .before .before .before .before .args in hexDigits (ten (a .case)) (now (a .s)) ≡ t
-tested c t e = rw (sym (c .before .ten .ensures)) (sym (c .hex-digits .ensures) ∙ e)
+tested c t e = rw (sym (c .before .ten .ensures .0)) (sym (c .hex-digits .ensures) ∙ e)
 
 returns : tie.Need-returns
 unfolding bytesRead bytesLeft
@@ -33,7 +33,7 @@ returns-2 c =
     let a = k .before .before .before .before .args in
     let y = tested k _ (i .before .if1 .taken) in
     let r = le-leb (length (now (a .s)) / 2) (length (now (a .out))) (omega arith) in
-    (rw (y, r), rw (y, r, ← k .before .ten .ensures) (d .decode .ensures))
+    (rw (y, r), rw (y, r, ← k .before .ten .ensures .0) (d .decode .ensures))
 
 returns-3 : tie.Need-returns-3
 unfolding bytesRead bytesLeft

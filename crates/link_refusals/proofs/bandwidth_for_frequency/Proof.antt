@@ -1,6 +1,5 @@
 -- `link_refusals::bandwidth_for_frequency` meets its contract: each test decides one bound.
 -- Assumes nothing.
-use borrow.Author.Needs.{needs}
 use borrow.Author.Tests.{le-leb, lt-leb, lt-ltb, le-ltb}
 use native.Mathlib.Omega.{arith}
 use Rattle.link_refusals.proofs.bandwidth_for_frequency.Statement.{statement}

@@ -1,6 +1,5 @@
 -- `link_refusals::header_for_spreading_factor` meets its contract: each test decides one part.
 -- Assumes nothing.
-use borrow.Author.Needs.{needs}
 use borrow.Author.Tests.{eq-eqb, ne-eqb}
 use Rattle.link_refusals.proofs.header_for_spreading_factor.Statement.{statement}
 use Rattle.link_refusals.proofs.header_for_spreading_factor.Tie as tie

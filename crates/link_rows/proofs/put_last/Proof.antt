@@ -1,7 +1,7 @@
 -- `link_rows::put_last` meets its contract: one text behind another.
 -- Assumes nothing.
 use borrow.Author.Needs.{needs}
-use mathlib.Core.Path.{_≡_, refl, sym, ap, _∙_}
+use mathlib.Core.Path.{ap}
 use Rattle.printing.specs.Numbers.{signed}
 use mir.ValLaws.{toZ-ofZ}
 use mir.Syntax.{w32}

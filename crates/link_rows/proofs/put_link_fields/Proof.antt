@@ -5,7 +5,7 @@ use Rattle.link_rows.specs.Rows.{lastFields}
 use lib.Signed.{mag}
 use lib.IntN.{ℤ}
 use Prim.Native.Nat.{_<_}
-use mathlib.Core.Path.{_≡_, refl, sym, ap, _∙_}
+use mathlib.Core.Path.{ap}
 use mir.ValLaws.{toZ-ofZ}
 use mir.Syntax.{w32}
 use Rattle.printing.proofs.Appending.{then, same}

@@ -1,7 +1,6 @@
 -- `link_rows::put_modem_fields` meets its contract: four fields, each by its own contract.
 -- Assumes nothing.
 use borrow.Author.Needs.{needs}
-use Rattle.printing.proofs.Appending.{then, same}
 use native.Mathlib.Omega.{arith}
 use Rattle.link_rows.proofs.put_modem_fields.Statement.{statement}
 use Rattle.link_rows.proofs.put_modem_fields.Tie as tie

@@ -1,6 +1,5 @@
 -- `mode_codes::rx_mode` meets its contract: each arm is the list's case, and every other number is past the list.
 -- Assumes nothing.
-use borrow.Author.Needs.{needs}
 use mathlib.Core.Path.{sym}
 use Prim.Native.Nat.{_≤_}
 use native.Mathlib.Omega.{arith}

@@ -1,8 +1,7 @@
 -- `numerals::put_choice` meets its contract: the test is the definition's.
 -- Assumes nothing.
 use borrow.Author.Needs.{needs}
-use borrow.Author.Tests.{eq-eqb, ne-eqb, lt-ltb, le-ltb}
-use Rattle.printing.proofs.Appending.{then, same}
+use borrow.Author.Tests.{eq-eqb, ne-eqb}
 use native.Mathlib.Omega.{arith}
 use Rattle.numerals.proofs.put_choice.Statement.{statement}
 use Rattle.numerals.proofs.put_choice.Tie as tie

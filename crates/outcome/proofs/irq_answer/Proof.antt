@@ -2,7 +2,7 @@
 -- Assumes nothing.
 use borrow.Author.Needs.{needs}
 use mathlib.Core.Path.{refl}
-use Rattle.irq.proofs.LastArm.{other-activity}
+use Rattle.irq_modes.proofs.LastArm.{other-activity}
 use Rattle.outcome.proofs.irq_answer.Statement.{statement}
 use Rattle.outcome.proofs.irq_answer.Tie as tie
 

@@ -1,7 +1,7 @@
 -- `printing::put` meets its contract: the text is copied to its place and nothing else changes.
 -- Assumes nothing.
 use borrow.Author.Needs.{needs}
-use mathlib.Core.Path.{_≡_, ap}
+use mathlib.Core.Path.{ap}
 use Prim.Native.Nat.{ℕ, _+_}
 use denote.Ref.{now}
 use Rattle.printing.proofs.Appending.{appended, copied}

@@ -1,22 +1,17 @@
 -- `reader::look` meets its contract: the guess is that of the registers so far, and these fit.
 -- Assumes nothing.
 use borrow.Author.Needs.{needs}
-use mathlib.Core.Path.{_≡_, refl, sym, subst, _∙_}
+use mathlib.Core.Path.{_≡_, sym, subst, _∙_}
 use mathlib.Core.Bool.{true, false}
-use mathlib.Core.List.{List}
-use Prim.Native.Nat.{ℕ, suc, _+_, _-_, _≤_, _<_}
+use Prim.Native.Nat.{ℕ, _+_, _-_, _≤_, _<_}
 use native.Mathlib.Numerals.{add-one}
 use native.Mathlib.Omega.{arith}
 use borrow.Author.Count.{below-more}
 use borrow.Author.Tests.{not-true, not-false}
 use lib.Dec.{T}
-use lib.ListN.{getD}
 use denote.Ref.{now}
-use Rattle.sheets.specs.Reader.{readerOrder}
-use Rattle.params.specs.declared.mod_params.Link.{Link}
-use Rattle.registers.specs.declared.board.Board.{Board}
-use Rattle.page.specs.Page.{Image, guess as guessed, first, fits, find, improved}
-use Rattle.lora_page.specs.Lora.{placesOf, page}
+use Rattle.page.specs.Page.{Image, guess as guessed, first, fits}
+use Rattle.lora_page.specs.Lora.{page}
 use Rattle.reader.specs.Look.{Fit}
 use Rattle.trial.proofs.Order.{order-lt, order-le}
 use Rattle.reader.proofs.SoFar.{so-far, next-guess, begins}

@@ -1,10 +1,8 @@
 -- `reader::read_registers` meets its contract: where all the registers fit, the guess from them is the link.
 -- Assumes nothing.
 use borrow.Author.Needs.{needs}
-use mathlib.Core.Path.{_≡_, refl}
-use Prim.Native.Nat.{_≤_}
+use mathlib.Core.Path.{refl}
 use denote.Ref.{now}
-use Rattle.lora_page.specs.Reading.{tellsReading}
 use Rattle.reader.proofs.SoFar.{refuses, finds}
 use Rattle.reader.proofs.read_registers.Statement.{statement}
 use Rattle.reader.proofs.read_registers.Tie as tie

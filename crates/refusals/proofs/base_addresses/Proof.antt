@@ -1,6 +1,5 @@
 -- `refusals::base_addresses` meets its contract: each test decides one base.
 -- Assumes nothing.
-use borrow.Author.Needs.{needs}
 use borrow.Author.Tests.{le-leb, lt-leb}
 use Rattle.refusals.proofs.base_addresses.Statement.{statement}
 use Rattle.refusals.proofs.base_addresses.Tie as tie

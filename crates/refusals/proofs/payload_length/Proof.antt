@@ -1,6 +1,5 @@
 -- `refusals::payload_length` meets its contract.
 -- Assumes nothing.
-use borrow.Author.Needs.{needs}
 use borrow.Author.Tests.{le-leb, lt-leb}
 use Rattle.refusals.proofs.payload_length.Statement.{statement}
 use Rattle.refusals.proofs.payload_length.Tie as tie

@@ -1,8 +1,6 @@
 -- `reports::wide` meets its contract: a number of 16 bits is itself in 32.
 -- Assumes nothing.
-use borrow.Author.Needs.{needs}
 use native.Mathlib.Omega.{arith}
-use mathlib.Core.Path.{_≡_}
 use lib.IntN.{ℤ}
 use mir.Syntax.{w16, w32}
 use mir.Val.{SFits}

@@ -1,6 +1,5 @@
 -- `requests::check` meets its contract: the test is the definition's.
 -- Assumes nothing.
-use borrow.Author.Needs.{needs}
 use Rattle.requests.proofs.check.Statement.{statement}
 use Rattle.requests.proofs.check.Tie as tie
 

@@ -1,9 +1,7 @@
 -- `setup::syncword` meets its contract: 0 is private, and any other flag public.
 -- Assumes nothing.
-use borrow.Author.Needs.{needs}
 use mathlib.Core.Path.{_≡_, refl}
 use Prim.Native.Nat.{ℕ, zero, suc}
-use native.Mathlib.Omega.{arith}
 use Rattle.sheets.specs.Modem.{syncWord}
 use Rattle.setup.proofs.syncword.Statement.{statement}
 use Rattle.setup.proofs.syncword.Tie as tie

@@ -3,7 +3,6 @@
 use borrow.Author.Needs.{needs}
 use Rattle.signatures.proofs.Rows.{rows}
 use native.Mathlib.Omega.{arith}
-use mathlib.Core.Path.{_≡_, _∙_}
 use Rattle.signatures.proofs.argument_count.Statement.{statement}
 use Rattle.signatures.proofs.argument_count.Tie as tie
 

@@ -1,18 +1,10 @@
 -- `trial::fits` meets its contract: a refused guess does not fit, and an accepted one is tried.
 -- Assumes nothing.
 use borrow.Author.Needs.{needs}
-use mathlib.Core.Path.{_≡_, sym, ap, _∙_}
-use mathlib.Core.Bool.{Bool, true, _&&_}
+use mathlib.Core.Path.{sym, _∙_}
 use native.Mathlib.Omega.{arith}
 use borrow.Author.Tests.{lt-ltb}
-use lib.Dec.{ltb}
-use denote.Ref.{now}
-use Rattle.sheets.specs.declared.Variant.{Variant}
-use Rattle.params.specs.declared.mod_params.Link.{Link}
-use Rattle.params.specs.declared.mod_params.Verdict.{Verdict}
-use Rattle.params.specs.declared.mod_params.Verdict.the-variants.{Clear, Refused}
-use Rattle.refusals.specs.Refusals.{linkRefusal}
-use Rattle.lora_page.specs.Links.{clear, accepted}
+use Rattle.lora_page.specs.Links.{accepted}
 use Rattle.trial.specs.Tests.{keeps}
 use Rattle.trial.proofs.fits.Statement.{statement}
 use Rattle.trial.proofs.fits.Tie as tie

@@ -1,10 +1,8 @@
 -- `calls::lines::answer_lines` is safe and ends: what was answered lies in the text.
 -- Assumes nothing.
 use borrow.Author.Needs.{needs}
-use Prim.Native.Nat.{_+_, _-_, _≤_}
-use mathlib.Core.Path.{_≡_}
-use native.Mathlib.Omega.{arith}
-use lib.ListN.{length, length-set}
+use Prim.Native.Nat.{_-_, _≤_}
+use lib.ListN.{length}
 use Rattle.calls.proofs.lines.answer_lines.Statement.{statement}
 use Rattle.calls.proofs.lines.answer_lines.Tie as tie
 

@@ -1,10 +1,9 @@
 -- `calls::lines::shift` is safe and ends: the bytes lie in the buffer.
 -- Assumes nothing.
 use borrow.Author.Needs.{needs}
-use Prim.Native.Nat.{_+_, _-_, _≤_}
+use Prim.Native.Nat.{_-_, _≤_}
 use mathlib.Core.Path.{_≡_}
-use native.Mathlib.Omega.{arith}
-use lib.ListN.{length, length-set}
+use lib.ListN.{length}
 use Rattle.calls.proofs.lines.shift.Statement.{statement}
 use Rattle.calls.proofs.lines.shift.Tie as tie
 

@@ -1,6 +1,5 @@
 -- `dump::characters::is_blank` meets its contract: the tests are the definition's.
 -- Assumes nothing.
-use borrow.Author.Needs.{needs}
 use borrow.Author.Tests.{eq-eqb, ne-eqb, le-leb, lt-leb}
 use Rattle.dump.proofs.characters.is_blank.Statement.{statement}
 use Rattle.dump.proofs.characters.is_blank.Tie as tie

@@ -1,7 +1,6 @@
 -- `dump::characters::is_x` meets its contract: the two tests are the definition's.
 -- Assumes nothing.
-use borrow.Author.Needs.{needs}
-use borrow.Author.Tests.{eq-eqb, ne-eqb, le-leb, lt-leb}
+use borrow.Author.Tests.{eq-eqb, ne-eqb}
 use Rattle.dump.proofs.characters.is_x.Statement.{statement}
 use Rattle.dump.proofs.characters.is_x.Tie as tie
 

@@ -4,9 +4,9 @@ use borrow.Author.Needs.{needs}
 use Rattle.dump.proofs.Turns.{copied}
 use denote.Ref.{now}
 use Rattle.dump.proofs.Arms as arms
-use borrow.Author.Tests.{eq-eqb, ne-eqb, le-leb, lt-leb}
+use borrow.Author.Tests.{eq-eqb, ne-eqb}
 use native.Mathlib.Omega.{arith}
-use mathlib.Core.Path.{_≡_, refl, sym, ap, _∙_}
+use mathlib.Core.Path.{refl, _∙_}
 use Rattle.dump.proofs.text.finish.Statement.{statement}
 use Rattle.dump.proofs.text.finish.Tie as tie
 

@@ -2,14 +2,13 @@
 -- Assumes nothing.
 use borrow.Author.Needs.{needs}
 use Rattle.dump.proofs.Arms as arms
-use Prim.Native.Nat.{_≤_}
 use lib.Seq.{take-suc-set}
 use native.Mathlib.Numerals.{add-one}
 use mathlib.Core.Logic.{⊎-elim}
 use mathlib.Core.List.{append-nil}
-use lib.ListN.{length, take, drop, set, length-set, drop-of-length-le}
+use lib.ListN.{length, length-set}
 use native.Mathlib.Omega.{arith}
-use mathlib.Core.Path.{_≡_, refl, sym, ap, _∙_}
+use mathlib.Core.Path.{refl, sym, ap}
 use Rattle.dump.proofs.text.keep.Statement.{statement}
 use Rattle.dump.proofs.text.keep.Tie as tie
 

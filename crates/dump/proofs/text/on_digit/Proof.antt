@@ -1,7 +1,7 @@
 -- `dump::text::on_digit` meets its contract: each arm is the definition's case.
 -- Assumes nothing.
 use borrow.Author.Needs.{needs}
-use borrow.Author.Tests.{eq-eqb, ne-eqb, le-leb, lt-leb}
+use borrow.Author.Tests.{eq-eqb, ne-eqb}
 use Rattle.dump.proofs.text.on_digit.Statement.{statement}
 use Rattle.dump.proofs.text.on_digit.Tie as tie
 

@@ -5,10 +5,10 @@ use Rattle.faults.specs.Spot.{lineFrom, columnFrom}
 use Rattle.faults.proofs.Counted as counted
 use denote.Ref.{now}
 use lib.ListN.{length, drop, drop-of-length-le}
-use Prim.Native.Nat.{_+_, _-_, _≤_, _<_}
+use Prim.Native.Nat.{_+_, _-_, _≤_}
 use mathlib.Core.Logic.{⊎-elim}
-use mathlib.Core.Path.{_≡_, refl, sym, ap, _∙_}
-use borrow.Author.Tests.{eq-eqb, ne-eqb, le-leb, lt-leb}
+use mathlib.Core.Path.{_≡_, refl, sym, _∙_}
+use borrow.Author.Tests.{eq-eqb, ne-eqb}
 use native.Mathlib.Omega.{arith}
 use Rattle.faults.proofs.spot.spot_behind.Statement.{statement}
 use Rattle.faults.proofs.spot.spot_behind.Tie as tie

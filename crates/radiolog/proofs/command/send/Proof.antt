@@ -2,7 +2,6 @@
 -- Assumes nothing.
 use borrow.Author.Needs.{needs}
 use lib.Seq.{length-take-le}
-use native.Mathlib.Omega.{arith}
 use mathlib.Core.Path.{sym}
 use Rattle.radiolog.proofs.command.send.Statement.{statement}
 use Rattle.radiolog.proofs.command.send.Tie as tie

@@ -1,7 +1,7 @@
 -- `reading::fields::field` meets its contract: a field ends where the next separator stands.
 -- Assumes nothing.
 use borrow.Author.Needs.{needs}
-use mathlib.Core.Path.{_≡_, _∙_}
+use mathlib.Core.Path.{_∙_}
 use denote.Ref.{now}
 use Rattle.reading.proofs.Parted.{to-end}
 use Rattle.reading.proofs.fields.field.Statement.{statement}

@@ -1,0 +1,103 @@
+// What a mode means for interrupts: which are shut out and cleared when they are set up, which pins tell them, and where a call for them is refused.
+ghost use mathlib.Core.Path.{_≡_};
+ghost use Rattle.sheets.specs.Interrupts.{shutOut, mappingKeeps, mapping, clearing};
+ghost use Rattle.mode_codes.specs.declared.ModeCode.the-variants.{Named};
+ghost use Rattle.mode_codes.specs.Modes.{activity};
+ghost use Rattle.operations.specs.Interrupts.{activityOf, irqRefusal, eventRefusal};
+use mode_codes::ModeCode;
+use params::mod_params::RadioError;
+use params::mod_params::RadioMode;
+use params::mod_params::RxMode;
+use params::mod_params::Verdict;
+
+// A 1 shuts an interrupt out.
+pub fn irq_flags_mask(mode: RadioMode) -> u8
+    ensures { λ r. ⌜ r ≡ shutOut (activity mode) ⌝ }
+{
+    match mode {
+        RadioMode::Transmit => 0xf7,
+        RadioMode::Receive(_) => 0x0f,
+        RadioMode::ChannelActivityDetection => 0xfa,
+        _ => 0xff,
+    }
+}
+
+// The pins whose mapping stays: all but DIO0, and in receive, where DIO3 tells a header, all but these two.
+pub fn dio_mapping_1_mask(mode: RadioMode) -> u8
+    ensures { λ r. ⌜ r ≡ mappingKeeps (activity mode) ⌝ }
+{
+    match mode {
+        RadioMode::Transmit => 0x3f,
+        RadioMode::Receive(_) => 0x3c,
+        RadioMode::ChannelActivityDetection => 0x3f,
+        _ => 0x3f,
+    }
+}
+
+pub fn dio_mapping_1(mode: RadioMode) -> u8
+    ensures { λ r. ⌜ r ≡ mapping (activity mode) ⌝ }
+{
+    match mode {
+        RadioMode::Transmit => 0x40,
+        RadioMode::Receive(_) => 0x01,
+        RadioMode::ChannelActivityDetection => 0x80,
+        _ => 0xc0,
+    }
+}
+
+// A 1 clears a flag, so that the Rust's 0 clears none.
+pub fn irq_flags(mode: RadioMode) -> u8
+    ensures { λ r. ⌜ r ≡ clearing (activity mode) ⌝ }
+{
+    match mode {
+        RadioMode::Transmit => 0x00,
+        RadioMode::Receive(_) => 0x00,
+        RadioMode::ChannelActivityDetection => 0x00,
+        _ => 0xff,
+    }
+}
+
+// Without a mode interrupts are those of Sleep: the Rust's last arm has both.
+pub fn mode_or_sleep(code: ModeCode) -> RadioMode
+    ensures { λ r. ⌜ activity r ≡ activityOf code ⌝ }
+{
+    match code {
+        ModeCode::Named(mode) => mode,
+        ModeCode::NoMode => RadioMode::Sleep,
+        ModeCode::NoCase => RadioMode::Sleep,
+    }
+}
+
+pub fn set_refusal(code: ModeCode) -> Verdict
+    ensures { λ r. ⌜ r ≡ irqRefusal code ⌝ }
+{
+    match code {
+        ModeCode::Named(_) => Verdict::Clear,
+        ModeCode::NoMode => Verdict::Clear,
+        ModeCode::NoCase => Verdict::Refused(RadioError::InvalidConfiguration),
+    }
+}
+
+// 9 where the Rust would panic.
+fn mode_refusal(mode: RadioMode) -> Verdict
+    ensures { λ r. ⌜ r ≡ eventRefusal (Named mode) ⌝ }
+{
+    match mode {
+        RadioMode::FrequencySynthesis => Verdict::Refused(RadioError::InvalidRadioMode),
+        RadioMode::Receive(rx) => match rx {
+            RxMode::DutyCycle => Verdict::Refused(RadioError::InvalidRadioMode),
+            _ => Verdict::Clear,
+        },
+        _ => Verdict::Clear,
+    }
+}
+
+pub fn event_refusal(code: ModeCode) -> Verdict
+    ensures { λ r. ⌜ r ≡ eventRefusal code ⌝ }
+{
+    match code {
+        ModeCode::Named(mode) => mode_refusal(mode),
+        ModeCode::NoMode => Verdict::Refused(RadioError::InvalidConfiguration),
+        ModeCode::NoCase => Verdict::Refused(RadioError::InvalidConfiguration),
+    }
+}
