@@ -1,8 +1,8 @@
 -- Tests that are made together, a test of each element of a text, as a loop makes it, and what stands past a text's end.
 -- Assumes nothing.
-use mathlib.Core.Path.{_≡_, refl}
+use mathlib.Core.Path.{_≡_, refl, sym}
 use mathlib.Core.List.{List, [], _∷_}
-use mathlib.Core.Bool.{Bool, true, false, _&&_}
+use mathlib.Core.Bool.{Bool, true, false, _&&_, true≢false}
 use Prim.Native.Nat.{ℕ, zero, suc, _+_, _≤_, _<_}
 use native.Mathlib.Numerals.{add-one}
 use native.Mathlib.Omega.{arith}
@@ -10,13 +10,10 @@ use lib.ListN.{length, drop, getD}
 use lib.Seq.{drop-cons}
 use Rattle.reading.specs.Words.{all}
 
-pub false≢true : false ≡ true → ⊥
-false≢true p = let z : _≡_ {A = ℕ} 0 1 = cc in omega arith
-
 -- two tests that were made together
 pub and-true : (p q : Bool) → (p && q) ≡ true → (p ≡ true) × (q ≡ true)
 and-true true q e = (refl, e)
-and-true false q e = absurd (false≢true e)
+and-true false q e = absurd (true≢false (sym e))
 
 module _ (p : ℕ → Bool) (s : List ℕ) (i : ℕ) (h : i < length s) where
   pub passes : p (getD s i 0) ≡ true → all p (drop i s) ≡ all p (drop (i + 1) s)

@@ -2,6 +2,8 @@
 -- Assumes nothing.
 use borrow.Author.Needs.{needs}
 use denote.Ref.{now}
+use mathlib.Core.Path.{_≡_}
+use Rattle.arguments.specs.Arguments.{misfitFrom}
 use native.Mathlib.Omega.{arith}
 use borrow.Author.Tests.{eq-eqb, ne-eqb}
 use Rattle.commands.specs.Operations.{kinds}
@@ -28,7 +30,8 @@ returns-3 c =
     let k = c .before .before in
     let n = k .before .before in
     let a = n .before .before .args in
-    rw (some (kinds (a .o)) (now (a .s)) (omega (arith, n .argument-count .ensures .0, k .before .if1 .left)), ← n .argument-count .ensures .0, ← k .count .ensures, eq-eqb _ _ (c .before .if2 .left), ← c .misfit .ensures .0)
+    let m : c .misfit .result ≡ misfitFrom 32 0 (now (a .s)) 0 (kinds (a .o)) = c .misfit .ensures .0 in
+    rw (some (kinds (a .o)) (now (a .s)) (omega (arith, n .argument-count .ensures .0, k .before .if1 .left)), ← n .argument-count .ensures .0, ← k .count .ensures, eq-eqb _ _ (c .before .if2 .left), ← m)
 
 pub arguments-fit-spec : {M : Type 1} → statement M
 arguments-fit-spec =

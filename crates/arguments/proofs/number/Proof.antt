@@ -1,30 +1,37 @@
 -- `arguments::number` meets its contract: each arm is the definition's case, and at most the largest.
 -- Assumes nothing.
 use borrow.Author.Needs.{needs}
+use mathlib.Core.Path.{_≡_}
 use native.Mathlib.Omega.{arith}
+use denote.Ref.{now}
+use Rattle.reading.specs.Fields.{fieldAt}
 use Rattle.arguments.specs.Arguments.{argument}
 use Rattle.decimals.proofs.Valued.{within}
 use Rattle.arguments.proofs.number.Statement.{statement}
 use Rattle.arguments.proofs.number.Tie as tie
+
+-- what is read is the field that the parting byte and the place say
+field-read : (c : tie.After-field) → now (c .field .result) ≡ fieldAt (c .before .before .args .parting) (c .before .before .args .i) (now (c .before .before .args .s))
+field-read c = c .field .ensures
 
 returns : tie.Need-returns
 unfolding argument
 returns c =
     let r = c .before .before .before in
     let e = c .before .n .given .1 in
-    (rw (← r .before .field .ensures, ← r .read-number .ensures, e), rw e at (within _ _ _ (r .read-number .ensures)))
+    (rw (← field-read (r .before), ← r .read-number .ensures, e), rw e at (within _ _ _ (r .read-number .ensures)))
 
 returns-2 : tie.Need-returns-2
 unfolding argument
 returns-2 c =
     let r = c .before .before in
-    (rw (← r .before .field .ensures, ← r .read-number .ensures, c .enum-told .given .1), omega arith)
+    (rw (← field-read (r .before), ← r .read-number .ensures, c .enum-told .given .1), omega arith)
 
 returns-3 : tie.Need-returns-3
 unfolding argument
 returns-3 c =
     let r = c .before .before in
-    (rw (← r .before .field .ensures, ← r .read-number .ensures, c .enum-told2 .given .1), omega arith)
+    (rw (← field-read (r .before), ← r .read-number .ensures, c .enum-told2 .given .1), omega arith)
 
 pub number-spec : {M : Type 1} → statement M
 number-spec =

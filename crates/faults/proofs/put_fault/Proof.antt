@@ -3,6 +3,9 @@
 use borrow.Author.Needs.{needs}
 use Rattle.printing.proofs.Appending.{then}
 use native.Mathlib.Omega.{arith}
+use mathlib.Core.Path.{_≡_}
+use denote.Ref.{now}
+use lib.ListN.{getD}
 use Rattle.printing.proofs.Appending.{nothing}
 use Rattle.faults.proofs.put_fault.Statement.{statement}
 use Rattle.faults.proofs.put_fault.Tie as tie
@@ -25,7 +28,9 @@ returns-4 : tie.Need-returns-4
 returns-4 c =
     let two = c .before .before in
     let one = two .before .before .before .before .before in
-    (rw (c .before .before .before .before .before .before .before .before .before .before .before .read3 .given .1, ← c .before .before .before .before .before .before .before .before .before .before3 .ensures, ← c .before .before .before .before .byte-at .ensures) ((then (one .put-place2 .ensures .0) (two .put-bad .ensures .0))), omega arith)
+    let a = c .before .before .before .before .before .before .before .before .before .before .before .before .before .before .before .args in
+    let b : c .before .before .before .before .byte-at .result ≡ getD (now (a .s)) (c .before .before .before .before .before .before .before .before .before .before .before .read3 .given .0 .0) 0 = c .before .before .before .before .byte-at .ensures in
+    (rw (c .before .before .before .before .before .before .before .before .before .before .before .read3 .given .1, ← c .before .before .before .before .before .before .before .before .before .before3 .ensures, ← b) ((then (one .put-place2 .ensures .0) (two .put-bad .ensures .0))), omega arith)
 
 pub put-fault-spec : {M : Type 1} → statement M
 put-fault-spec =

@@ -3,7 +3,8 @@
 use borrow.Author.Needs.{needs}
 use Rattle.frequencies.specs.Frequencies.{kilohertz}
 use mathlib.Core.List.{append-nil}
-use mathlib.Core.Path.{sym}
+use mathlib.Core.Path.{_≡_, sym}
+use Prim.Native.Nat.{_%_}
 use borrow.Author.Tests.{eq-eqb, ne-eqb}
 use Rattle.printing.proofs.Appending.{then, same}
 use native.Mathlib.Omega.{arith}
@@ -14,7 +15,8 @@ returns : tie.Need-returns
 unfolding kilohertz
 returns c =
     let one = c .before .before .before in
-    (rw (eq-eqb _ 0 (c .if1 .taken)) (same (sym (append-nil _)) (one .put-decimal .ensures .0)), omega arith)
+    let t : one .before .before .before .args .hz % 1000 ≡ 0 = c .if1 .taken in
+    (rw (eq-eqb _ 0 t) (same (sym (append-nil _)) (one .put-decimal .ensures .0)), omega arith)
 
 returns-2 : tie.Need-returns-2
 unfolding kilohertz

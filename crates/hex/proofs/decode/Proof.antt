@@ -6,8 +6,8 @@ use mathlib.Core.List.{_++_}
 use native.Mathlib.Omega.{arith}
 use Prim.Native.Nat.{_+_, _*_, _-_, _/_, _≤_}
 use denote.Ref.{now}
-use lib.ListN.{length, take, drop, length-set, length-drop}
-use Rattle.hex.specs.Hex.{bytesOf}
+use lib.ListN.{length, take, drop, getD, length-set, length-drop}
+use Rattle.hex.specs.Hex.{bytesOf, nibble}
 use Rattle.hex.proofs.Pairs.{pair-more, none-left, stored, behind, whole}
 use Rattle.hex.proofs.decode.Statement.{statement}
 use Rattle.hex.proofs.decode.Tie as tie
@@ -26,7 +26,9 @@ loop-again c =
     let a = k .before .before .before .before .args in
     let b = stored (l .out) (l .i) (c .before .before .nibble .result * 16 + c .nibble2 .result) (bytesOf (a .a) (drop (l .j + 2) (now (a .s)))) (omega arith) in
     let m = pair-more (a .a) (now (a .s)) (l .j) (omega arith) in
-    (omega arith, omega arith, simp length-set (l .inv .2), b ∙ rw (c .before .before .nibble .ensures .0, c .nibble2 .ensures .0, ← m) (l .inv .3), behind (l .out) (now (a .out)) (l .i) _ (l .inv .4))
+    let high : c .before .before .nibble .result ≡ nibble (a .a) (getD (now (a .s)) (l .j) 0) = c .before .before .nibble .ensures .0 in
+    let low : c .nibble2 .result ≡ nibble (a .a) (getD (now (a .s)) (l .j + 1) 0) = c .nibble2 .ensures .0 in
+    (omega arith, omega arith, simp length-set (l .inv .2), b ∙ rw (high, low, ← m) (l .inv .3), behind (l .out) (now (a .out)) (l .i) _ (l .inv .4))
 
 returns : tie.Need-returns Inv-loop μ-loop
 returns c =

@@ -1,11 +1,11 @@
 -- `levels::level` meets its contract: a power that is held to a range of at most 256 lies at most 255 above its least.
 -- Assumes nothing.
 use borrow.Author.Needs.{needs}
-use mathlib.Core.Path.{_≡_}
+use mathlib.Core.Path.{_≡_, sym, subst}
 use native.Mathlib.Omega.{arith}
-use lib.IntN.{pos, _-ℤ_}
+use lib.IntN.{ℤ, pos, _-ℤ_}
 use mir.Syntax.{w32}
-use mir.Val.{toZ, ofZ}
+use mir.Val.{SFits, toZ, ofZ}
 use mir.ValLaws.{toZ-ofZ, toZ-pos}
 use Rattle.levels.specs.Ranges.{bounded, level}
 use Rattle.levels.proofs.Whole.{held, Above, above-is}
@@ -24,7 +24,7 @@ difference c =
     rw (toZ-ofZ w32 _ (f .least), held (c .clamp .result) (c .clamp .ok), clamped, far (c .before) .is) (above-is (c .before .args .least) (far (c .before) .by))
 
 sub-result : tie.Need-sub-result
-sub-result c = let h = far (c .before) .most in rw (difference c) (record { sfits = omega arith })
+sub-result c = let h = far (c .before) .most in subst (λ (z : ℤ). SFits w32 z) (sym (difference c)) (record { sfits = omega arith })
 
 cast-result : tie.Need-cast-result
 cast-result c =

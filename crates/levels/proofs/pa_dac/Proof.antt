@@ -1,6 +1,9 @@
 -- `levels::pa_dac` meets its contract: each bracket is a case of the definition.
 -- Assumes nothing.
 use mathlib.Core.Path.{_≡_}
+use mathlib.Core.Bool.{true, false}
+use lib.IntN.{pos}
+use lib.Signed.{ltZ}
 use mir.Syntax.{w32}
 use mir.Val.{toZ, ofZ}
 use mir.ValLaws.{toZ-ofZ}
@@ -15,7 +18,9 @@ held c = rw (toZ-ofZ w32 _ (c .fits .txp))
 returns : tie.Need-returns
 returns c =
     let t = c .before .before in
-    rw (t .if1 .taken) (rw (t .if1 .taken, c .before .if2 .left, c .if3 .taken) at (held (t .before)))
+    let from-18 : ltZ (toZ w32 (ofZ w32 (t .before .args .txp))) (pos 18) ≡ false = c .before .if2 .left in
+    let to-20 : ltZ (toZ w32 (ofZ w32 (t .before .args .txp))) (pos 21) ≡ true = c .if3 .taken in
+    rw (t .if1 .taken) (rw (t .if1 .taken, from-18, to-20) at (held (t .before)))
 
 returns-2 : tie.Need-returns-2
 returns-2 c =

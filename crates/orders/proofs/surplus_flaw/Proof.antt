@@ -2,13 +2,14 @@
 -- Assumes nothing.
 use borrow.Author.Needs.{needs}
 use Rattle.orders.specs.Orders.{surplusFlaw}
+use Prim.Native.Nat.{_≤_}
 use borrow.Author.Tests.{lt-leb, le-leb}
 use Rattle.orders.proofs.surplus_flaw.Statement.{statement}
 use Rattle.orders.proofs.surplus_flaw.Tie as tie
 
 returns : tie.Need-returns
 unfolding surplusFlaw
-returns c = rw (← c .before .count .ensures, le-leb _ _ (c .if1 .taken))
+returns c = let t : c .before .count .result ≤ c .before .before .before .args .n = c .if1 .taken in rw (← c .before .count .ensures, le-leb _ _ t)
 
 returns-2 : tie.Need-returns-2
 unfolding surplusFlaw

@@ -3,14 +3,14 @@
 use borrow.Author.Needs.{needs}
 use mathlib.Core.Path.{_≡_, _∙_}
 use mathlib.Core.List.{_∷_, _++_, append-assoc}
-use Prim.Native.Nat.{_+_, _*_, _-_, _≤_, _<_}
+use Prim.Native.Nat.{_+_, _*_, _-_, _/_, _%_, _≤_, _<_}
 use native.Mathlib.Omega.{arith}
 use denote.Ref.{now}
-use lib.ListN.{length, take, drop, set, length-set, drop-of-length-le}
+use lib.ListN.{length, take, drop, set, getD, length-set, drop-of-length-le}
 use Rattle.hex.proofs.Pairs.{stored, behind, whole}
 use Rattle.printing.proofs.Digits.{byte-more, two-each}
 use Rattle.printing.proofs.Appending.{appended}
-use Rattle.printing.specs.Numbers.{hexFrom}
+use Rattle.printing.specs.Numbers.{hexDigit, hexFrom}
 use Rattle.printing.proofs.put_hex.Statement.{statement}
 use Rattle.printing.proofs.put_hex.Tie as tie
 
@@ -39,8 +39,10 @@ loop-again c =
     let y = c .hex-digit2 .result in
     let m = byte-more t s (l .i) (k .loop-test .taken) in
     let n : l .o + 2 ≡ l .o + 1 + 1 = omega arith in
+    let high : x ≡ hexDigit t (getD s (l .i) 0 / 16) = c .before .hex-digit .ensures in
+    let low : y ≡ hexDigit t (getD s (l .i) 0 % 16) = c .hex-digit2 .ensures in
     let two = stored (set (l .out) (l .o) x) (l .o + 1) y (hexFrom t (drop (l .i + 1) s)) (simp length-set (omega arith)) ∙ stored (l .out) (l .o) x (y ∷ hexFrom t (drop (l .i + 1) s)) h in
-    (omega arith, omega arith, simp length-set (l .inv .2), rw n (two ∙ rw (c .before .hex-digit .ensures, c .hex-digit2 .ensures, ← m) (l .inv .3)), rw n (behind _ (now (a .out)) (l .o + 1) y (behind _ (now (a .out)) (l .o) x (l .inv .4))), l .inv .5)
+    (omega arith, omega arith, simp length-set (l .inv .2), rw n (two ∙ rw (high, low, ← m) (l .inv .3)), rw n (behind _ (now (a .out)) (l .o + 1) y (behind _ (now (a .out)) (l .o) x (l .inv .4))), l .inv .5)
 
 returns : tie.Need-returns Inv-loop μ-loop
 returns c =

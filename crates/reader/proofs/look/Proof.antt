@@ -2,7 +2,7 @@
 -- Assumes nothing.
 use borrow.Author.Needs.{needs}
 use mathlib.Core.Path.{_≡_, sym, subst, _∙_}
-use mathlib.Core.Bool.{true, false}
+use mathlib.Core.Bool.{true, false, true≢false}
 use Prim.Native.Nat.{ℕ, _+_, _-_, _≤_, _<_}
 use native.Mathlib.Numerals.{add-one}
 use native.Mathlib.Omega.{arith}
@@ -17,9 +17,6 @@ use Rattle.trial.proofs.Order.{order-lt, order-le}
 use Rattle.reader.proofs.SoFar.{so-far, next-guess, begins}
 use Rattle.reader.proofs.look.Statement.{statement}
 use Rattle.reader.proofs.look.Tie as tie
-
-false≢true : false ≡ true → ⊥
-false≢true e = let z : _≡_ {A = ℕ} 0 1 = cc in omega arith
 
 abbrev Inv-loop : tie.InvT-loop
 Inv-loop image board variant n guess₀ i₀ guess i = (i ≤ n) × (guess ≡ guessed (first (page board) i) image) × ((k : ℕ) → k < i + 1 → Fit board image k)
@@ -70,7 +67,7 @@ returns c =
     record {
       count = record { within = omega (arith, r .registers .ensures); before = λ n h. l .loop .inv .2 n (omega arith); last = λ f. absurd (unfit f) };
       guess = improved-guess g;
-      fit = λ e. absurd (false≢true e);
+      fit = λ e. absurd (true≢false (sym e));
       unfit = λ e. unfit;
     }
 
@@ -94,7 +91,7 @@ returns-2 c =
       count = record { within = omega (arith, r .registers .ensures); before = λ n h. l .loop .inv .2 n (omega arith); last = λ f. omega (arith, r .registers .ensures) };
       guess = l .loop .inv .1;
       fit = λ e. l .loop .inv .2 i (omega arith);
-      unfit = λ e. absurd (false≢true (sym e));
+      unfit = λ e. absurd (true≢false e);
     }
 
 pub look-spec : {M : Type 1} → statement M

@@ -1,6 +1,9 @@
 -- `requests::is_lent` meets its contract: the tests are the definition's.
 -- Assumes nothing.
 use borrow.Author.Needs.{needs}
+use Prim.Native.Nat.{_<_}
+use denote.Ref.{now}
+use lib.ListN.{length}
 use borrow.Author.Tests.{lt-leb, le-leb}
 use Rattle.requests.proofs.is_lent.Statement.{statement}
 use Rattle.requests.proofs.is_lent.Tie as tie
@@ -12,7 +15,9 @@ returns-2 : tie.Need-returns-2
 returns-2 c = rw (← c .before .before .same .ensures, c .before .if1 .left, lt-leb _ _ (c .if2 .taken))
 
 returns-3 : tie.Need-returns-3
-returns-3 c = rw (← c .before .before .before .same .ensures, c .before .before .if1 .left, le-leb _ _ (c .before .if2 .left), lt-leb _ _ (c .if3 .taken))
+returns-3 c =
+    let t : 2048 < length (now (c .before .before .before .before .before .before .args .s)) = c .if3 .taken in
+    rw (← c .before .before .before .same .ensures, c .before .before .if1 .left, le-leb _ _ (c .before .if2 .left), lt-leb _ _ t)
 
 returns-4 : tie.Need-returns-4
 returns-4 c =

@@ -4,8 +4,9 @@ use borrow.Author.Needs.{needs}
 use native.Mathlib.Omega.{arith}
 use Prim.Native.Nat.{_*_, _/_, _<_}
 use mathlib.Core.Path.{_≡_, _∙_}
+use mathlib.Core.Bool.{true, false}
 use lib.IntN.{pos, _+ℤ_}
-use lib.Signed.{mag}
+use lib.Signed.{mag, leZ}
 use mir.Syntax.{w16}
 use mir.Val.{toZ, ofZ}
 use mir.ValLaws.{toZ-ofZ, toZ-pos}
@@ -57,13 +58,13 @@ returns-2 : tie.Need-returns-2
 unfolding sheet.rssi
 returns-2 c =
     let start = c .before .before in
-    let below-noise = rw (ratio-is (c .before)) at (c .if1 .left) in
+    let below-noise : leZ (pos 0) (sheet.snr (start .args .raw)) ≡ false = rw (ratio-is (c .before)) at (c .if1 .left) in
     rw (toZ-ofZ w16 _ (add-result-3 c), toZ-ofZ w16 _ (add-result-2 c), offset-is start, byte-is start, ratio-is (c .before), below-noise)
 
 returns : tie.Need-returns
 unfolding sheet.rssi
 returns c =
-    let above-noise = rw (ratio-is (c .before .before)) at (c .before .if1 .taken) in
+    let above-noise : leZ (pos 0) (sheet.snr (c .before .before .before .args .raw)) ≡ true = rw (ratio-is (c .before .before)) at (c .before .if1 .taken) in
     rw (toZ-ofZ w16 _ (add-result c), offset-is (c .before .before .before), scaled-is c, above-noise)
 
 pub packet-rssi-spec : {M : Type 1} → statement M

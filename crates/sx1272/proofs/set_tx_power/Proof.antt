@@ -2,11 +2,14 @@
 -- Assumes nothing.
 use borrow.Author.Needs.{needs}
 use mathlib.Core.Path.{_≡_, _∙_}
+use mathlib.Core.List.{[], _∷_}
 use mir.Syntax.{w32}
 use mir.Val.{toZ, ofZ}
 use mir.ValLaws.{toZ-ofZ}
 use Rattle.sheets.specs.declared.Variant.the-variants.{Sx1272}
 use Rattle.sheets.specs.Power.{clamped}
+use Rattle.sheets.specs.Registers.{RegPaConfig, RegPaDac}
+use Rattle.log.specs.Steps.{Done, Write}
 use Rattle.log.proofs.Runs.{then}
 use Rattle.levels.specs.Ranges.{InRange}
 use Rattle.levels.proofs.Whole.{held}
@@ -33,7 +36,9 @@ returns c =
     let e = power (config .before) in
     let k = config .pa-config .ensures ∙ config-of Sx1272 (a .tx-boost) (a .p-out) e in
     let d = dac .pa-dac .ensures ∙ dac-in-range Sx1272 _ _ (range (config .before)) ∙ dac-of Sx1272 (a .tx-boost) (a .p-out) e in
-    then (rw k at (first .write-register .ensures)) (rw d at (second .write-register2 .ensures))
+    let one : Done (Write RegPaConfig (config .pa-config .result) ∷ []) _ _ _ _ _ _ = first .write-register .ensures in
+    let two : Done (Write (RegPaDac Sx1272) (dac .pa-dac .result) ∷ []) _ _ _ _ _ _ = second .write-register2 .ensures in
+    then (rw k at one) (rw d at two)
 
 pub set-tx-power-spec : {M : Type 1} → statement M
 set-tx-power-spec =
