@@ -104,8 +104,8 @@ operations =
 
 -- the first of some operations whose word this is
 abbrev pub among : (Operation → List ℕ) → List ℕ → List Operation → Named
-among word w [] = Unknown
-among word w (o ∷ os) = cond (alike w (word o)) (Known o) (among word w os)
+among called w [] = Unknown
+among called w (o ∷ os) = cond (alike w (called o)) (Known o) (among called w os)
 
 -- the first of some operations whose word this is, where their words are those of a text from word k on
 abbrev pub foundFrom : List ℕ → List ℕ → ℕ → List Operation → Named

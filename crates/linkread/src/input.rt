@@ -1,5 +1,6 @@
 // An input: a file or standard input, read whole and shown, or what is wrong with it.
 use crate::show::show_image;
+use crate::show::write_out;
 use crate::show::write_part;
 use crate::words::Asked;
 use dump::Read;
@@ -67,14 +68,14 @@ pub fn show_input(a: Asked, name: &[u8], fd: i32) {
     }
 }
 
-// The name of a file before its link, and an empty line between two files.
-fn print_name(name: &[u8], first: bool) {
+// The name of a file before its link, and an empty line between two files; whether they could be written.
+fn print_name(name: &[u8], first: bool) -> bool {
     if !first {
-        io::write_all(STDOUT_FILENO, b"\n");
+        if !write_out(b"\n") {
+            return false;
+        }
     }
-    io::write_all(STDOUT_FILENO, b"file              ");
-    io::write_all(STDOUT_FILENO, name);
-    io::write_all(STDOUT_FILENO, b"\n");
+    write_out(b"file              ") && write_out(name) && write_out(b"\n")
 }
 
 // The file of that name is opened; `-` is standard input.
@@ -88,7 +89,9 @@ fn opened(name: &[u8]) -> i32 {
 
 pub fn show_file(a: Asked, name: &[u8], first: bool) {
     if !a.table {
-        print_name(name, first);
+        if !print_name(name, first) {
+            return;
+        }
     }
     let fd = opened(name);
     if fd < 0 {

@@ -13,12 +13,18 @@ use registers::board::Board;
 use sheets::Variant;
 
 // What cannot be written is told, so that a table that was cut short is not taken for a whole one.
-pub fn write_part(fd: i32, text: &[u8], n: usize)
+pub fn write_part(fd: i32, text: &[u8], n: usize) -> bool
     requires { ⌜ n ≤ length (now text) ⌝ }
 {
-    if !io::write_all(fd, &text[..n]) {
+    let written = io::write_all(fd, &text[..n]);
+    if !written {
         os::fail(b"linkread: standard output");
     }
+    written
+}
+
+pub fn write_out(text: &[u8]) -> bool {
+    write_part(STDOUT_FILENO, text, text.len())
 }
 
 fn print_link(board: Board, o: Oscillator, pa_config: u8, l: Link) {
@@ -41,16 +47,18 @@ fn print_link_row(name: &[u8], board: Board, l: Link) {
     let mut out = [0u8; 1024];
     let at = board_rows::put_board_fields(board, 0, &mut out, 0);
     let n = link_rows::put_link_fields(l, &mut out, at);
-    io::write_all(STDOUT_FILENO, name);
-    write_part(STDOUT_FILENO, &out, n);
+    if write_out(name) {
+        write_part(STDOUT_FILENO, &out, n);
+    }
 }
 
 fn print_ruled_out_row(name: &[u8], board: Board, register: u8, value: u8) {
     let mut out = [0u8; 512];
     let at = board_rows::put_board_fields(board, 27, &mut out, 0);
     let n = ruled_out::put_ruled_out_fields(register, value, &mut out, at);
-    io::write_all(STDOUT_FILENO, name);
-    write_part(STDOUT_FILENO, &out, n);
+    if write_out(name) {
+        write_part(STDOUT_FILENO, &out, n);
+    }
 }
 
 fn show_link(a: Asked, name: &[u8], image: &[u8], board: Board, o: Oscillator, l: Link)
