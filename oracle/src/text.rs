@@ -23,7 +23,7 @@ pub fn parse(line: &[u8]) -> Result<Call, String> {
     let fields: [&[u8]; 11] = fields.try_into().map_err(|_| "expected 11 fields".to_string())?;
     let flag = |n: usize| parse_flag(fields[n - 1]).ok_or_else(|| bad(n, "expected 0 or 1"));
     let bytes = |n: usize| {
-        let expected = || bad(n, &format!("expected hex of up to {LONGEST_SLICE} bytes"));
+        let expected = || bad(n, &format!("expected lower-case hex of up to {LONGEST_SLICE} bytes"));
         parse_bytes(fields[n - 1]).ok_or_else(expected)
     };
     let variant = parse_variant(fields[0]).ok_or_else(|| bad(1, "expected 1272 or 1276"))?;

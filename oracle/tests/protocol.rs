@@ -47,7 +47,7 @@ fn bad_fields() {
     }
     assert_eq!(with(5, "do_tx"), "?\tfield 6: expected arguments: -");
     for (field, hex) in (7..=10).flat_map(|field| ["", "0", "0g", "AB", "- "].map(|hex| (field, hex))) {
-        assert_eq!(with(field, hex), format!("?\tfield {field}: expected hex of up to 1024 bytes"));
+        assert_eq!(with(field, hex), format!("?\tfield {field}: expected lower-case hex of up to 1024 bytes"));
     }
     for used in ["", "-", "-1", "+1", "1 ", "18446744073709551616"] {
         assert_eq!(with(11, used), "?\tfield 11: expected a decimal number");
@@ -57,7 +57,7 @@ fn bad_fields() {
 #[test]
 fn edges() {
     assert_eq!(with(8, &"ab".repeat(1_024)).len(), "26\t00ff\t-\t-\t-\t0".len() + 2_047);
-    assert_eq!(with(8, &"ab".repeat(1_025)), "?\tfield 8: expected hex of up to 1024 bytes");
+    assert_eq!(with(8, &"ab".repeat(1_025)), "?\tfield 8: expected lower-case hex of up to 1024 bytes");
     let rest = with(11, "18446744073709551615");
     assert_eq!(rest, "26\t00ff\t-\t-\t-\t18446744073709551615");
     let short = GOOD.join("\t").len() - 1;

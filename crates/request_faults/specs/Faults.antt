@@ -23,5 +23,5 @@ words Variant = ascii "field 1: expected 1272 or 1276"
 words (Flag n) = ascii "field " ++ (decimal n ++ ascii ": expected 0 or 1")
 words UnknownOperation = ascii "field 5: unknown operation"
 words (Arguments o) = wanted o
-words (Bytes n) = ascii "field " ++ (decimal n ++ ascii ": expected hex of up to 1024 bytes")
+words (Bytes n) = ascii "field " ++ (decimal n ++ ascii ": expected lower-case hex of up to 1024 bytes")
 words Used = ascii "field 11: expected a decimal number"

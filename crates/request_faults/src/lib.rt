@@ -47,7 +47,12 @@ fn put_words(f: Fault, out: &mut [u8], at: usize) -> usize
         Fault::Flag(n) => put_numbered(n, b": expected 0 or 1", out, at),
         Fault::UnknownOperation => put(b"field 5: unknown operation", out, at),
         Fault::Arguments(o) => put_wanted(o, out, at),
-        Fault::Bytes(n) => put_numbered(n, b": expected hex of up to 1024 bytes", out, at),
+        Fault::Bytes(n) => put_numbered(
+            n,
+            b": expected lower-case hex of up to 1024 bytes",
+            out,
+            at,
+        ),
         Fault::Used => put(b"field 11: expected a decimal number", out, at),
     }
 }
