@@ -12,17 +12,17 @@ use denote.Enum.Declared.{tagOf}
 use types.Run.{OneOf, miss}
 use Rattle.dump.specs.declared.characters.Kind.{Kind}
 use Rattle.dump.specs.declared.characters.Kind.the-variants.{Digit, Blank, X, Other}
-use Rattle.dump.specs.declared.text.State.{State}
-use Rattle.dump.specs.declared.text.State.the-variants.{Between, Zero, Prefix, Half}
-use Rattle.dump.specs.declared.text.Step.{Step}
-use Rattle.dump.specs.declared.text.Step.the-variants.{To, Byte, Missing, Bad}
-use Rattle.dump.specs.declared.text.Read.{Read}
-use Rattle.dump.specs.declared.text.Read.the-variants as read
+use Rattle.dump.specs.declared.hex_text.State.{State}
+use Rattle.dump.specs.declared.hex_text.State.the-variants.{Between, Zero, Prefix, Half}
+use Rattle.dump.specs.declared.hex_text.Step.{Step}
+use Rattle.dump.specs.declared.hex_text.Step.the-variants.{To, Byte, Missing, Bad}
+use Rattle.dump.specs.declared.hex_text.Read.{Read}
+use Rattle.dump.specs.declared.hex_text.Read.the-variants as read
 use Rattle.dump.specs.Text.{onBlank, onX, next, given, ended, unless}
 use Rattle.dump.specs.Dump.{known, leave}
 use Rattle.dump.proofs.characters.Kind as kind
-use Rattle.dump.proofs.text.State as state
-use Rattle.dump.proofs.text.Step as step
+use Rattle.dump.proofs.hex_text.State as state
+use Rattle.dump.proofs.hex_text.Step as step
 
 pub hexish : (k : Kind) → OneOf (0 ∷ 1 ∷ 2 ∷ []) (tagOf kind.the-type k) → true ≡ known k
 hexish (Digit d) h = refl

@@ -9,7 +9,7 @@ use borrow.Author.Tests.{eqb-true}
 use lib.Dec.{eqb}
 use lib.ListN.{length, take, drop, getD, drop-of-length-le}
 use lib.Seq.{drop-cons, take-length}
-use Rattle.dump.specs.declared.text.State.{State}
+use Rattle.dump.specs.declared.hex_text.State.{State}
 use Rattle.dump.specs.Text.{stepAt, next, given, bytesFrom, unless, verdictFrom}
 use Rattle.reading.proofs.Tests.{and-true}
 use Rattle.dump.specs.Dump.{isRaw}

@@ -7,9 +7,9 @@ use lib.ListN.{length}
 use Rattle.reading.specs.Words.{all}
 use Rattle.dump.specs.declared.characters.Kind.{Kind}
 use Rattle.dump.specs.declared.characters.Kind.the-variants.{Digit, Blank, X, Other}
-use Rattle.dump.specs.declared.text.State.the-variants.{Between}
-use Rattle.dump.specs.declared.text.Read.{Read}
-use Rattle.dump.specs.declared.text.Read.the-variants.{Image, Bytes, Missing, Bad}
+use Rattle.dump.specs.declared.hex_text.State.the-variants.{Between}
+use Rattle.dump.specs.declared.hex_text.Read.{Read}
+use Rattle.dump.specs.declared.hex_text.Read.the-variants.{Image, Bytes, Missing, Bad}
 use Rattle.dump.specs.Characters.{kindOf}
 use Rattle.dump.specs.Text.{bytesFrom, verdictFrom}
 

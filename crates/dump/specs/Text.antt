@@ -6,12 +6,12 @@ use lib.Dec.{eqb}
 use lib.ListN.{length}
 use Rattle.dump.specs.declared.characters.Kind.{Kind}
 use Rattle.dump.specs.declared.characters.Kind.the-variants.{Digit, Blank, X, Other}
-use Rattle.dump.specs.declared.text.State.{State}
-use Rattle.dump.specs.declared.text.State.the-variants.{Between, Zero, Prefix, Half}
-use Rattle.dump.specs.declared.text.Step.{Step}
-use Rattle.dump.specs.declared.text.Step.the-variants.{To, Byte, Missing, Bad}
-use Rattle.dump.specs.declared.text.Read.{Read}
-use Rattle.dump.specs.declared.text.Read.the-variants as read
+use Rattle.dump.specs.declared.hex_text.State.{State}
+use Rattle.dump.specs.declared.hex_text.State.the-variants.{Between, Zero, Prefix, Half}
+use Rattle.dump.specs.declared.hex_text.Step.{Step}
+use Rattle.dump.specs.declared.hex_text.Step.the-variants.{To, Byte, Missing, Bad}
+use Rattle.dump.specs.declared.hex_text.Read.{Read}
+use Rattle.dump.specs.declared.hex_text.Read.the-variants as read
 use Rattle.dump.specs.Characters.{kindOf}
 
 -- digits are below 16, so the remainders change nothing

@@ -5,8 +5,8 @@ use lib.ListN.{length, take, getD}
 use Rattle.hex.specs.declared.Case.the-variants.{Upper}
 use Rattle.reading.specs.Words.{ascii}
 use Rattle.printing.specs.Numbers.{decimal, hex}
-use Rattle.dump.specs.declared.text.Read.{Read}
-use Rattle.dump.specs.declared.text.Read.the-variants.{Image, Bytes, Missing, Bad}
+use Rattle.dump.specs.declared.hex_text.Read.{Read}
+use Rattle.dump.specs.declared.hex_text.Read.the-variants.{Image, Bytes, Missing, Bad}
 use Rattle.faults.specs.Spot.{lineFrom, columnFrom}
 
 -- where something stands behind a text

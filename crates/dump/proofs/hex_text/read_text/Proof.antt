@@ -1,11 +1,11 @@
--- `dump::text::read_text` meets its contract: reading what is left from this state is reading the whole.
+-- `dump::hex_text::read_text` meets its contract: reading what is left from this state is reading the whole.
 -- Assumes nothing.
 use borrow.Author.Needs.{needs}
-use Rattle.dump.specs.declared.text.State.{State}
+use Rattle.dump.specs.declared.hex_text.State.{State}
 use Rattle.dump.specs.Dump.{leave, textRead}
-use Rattle.dump.specs.declared.text.Read.{Read}
+use Rattle.dump.specs.declared.hex_text.Read.{Read}
 use Rattle.dump.specs.Text.{given, bytesFrom, verdictFrom}
-use Rattle.dump.specs.declared.text.State.the-variants.{Between}
+use Rattle.dump.specs.declared.hex_text.State.the-variants.{Between}
 use Rattle.dump.proofs.Turns as turns
 use Rattle.dump.proofs.Arms as arms
 use denote.Ref.{now}
@@ -14,8 +14,8 @@ use Prim.Native.Nat.{ℕ, _+_, _-_, _≤_, _<_}
 use mathlib.Core.List.{List, _++_, append-assoc}
 use mathlib.Core.Path.{_≡_, refl, sym, ap, _∙_}
 use native.Mathlib.Omega.{arith}
-use Rattle.dump.proofs.text.read_text.Statement.{statement}
-use Rattle.dump.proofs.text.read_text.Tie as tie
+use Rattle.dump.proofs.hex_text.read_text.Statement.{statement}
+use Rattle.dump.proofs.hex_text.read_text.Tie as tie
 
 abbrev Inv-loop : tie.InvT-loop
 Inv-loop s image bytes₀ n₀ state₀ i₀ bytes n state i = (i ≤ length s) × (n ≤ i) × (128 ≡ length bytes) × (verdictFrom state i n (drop i s) ≡ textRead s) × (n ≤ 128 → take n bytes ++ bytesFrom state (drop i s) ≡ bytesFrom Between s)

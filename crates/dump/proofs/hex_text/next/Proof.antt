@@ -1,9 +1,9 @@
--- `dump::text::next` meets its contract: each arm is the definition's case.
+-- `dump::hex_text::next` meets its contract: each arm is the definition's case.
 -- Assumes nothing.
 use borrow.Author.Needs.{needs}
 use Rattle.dump.proofs.Arms as arms
-use Rattle.dump.proofs.text.next.Statement.{statement}
-use Rattle.dump.proofs.text.next.Tie as tie
+use Rattle.dump.proofs.hex_text.next.Statement.{statement}
+use Rattle.dump.proofs.hex_text.next.Tie as tie
 
 returns : tie.Need-returns
 returns c = rw (c .before .step .given .1)

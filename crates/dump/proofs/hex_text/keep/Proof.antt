@@ -1,4 +1,4 @@
--- `dump::text::keep` meets its contract: the byte given stands behind those kept.
+-- `dump::hex_text::keep` meets its contract: the byte given stands behind those kept.
 -- Assumes nothing.
 use borrow.Author.Needs.{needs}
 use Rattle.dump.proofs.Arms as arms
@@ -9,8 +9,8 @@ use mathlib.Core.List.{append-nil}
 use lib.ListN.{length, length-set}
 use native.Mathlib.Omega.{arith}
 use mathlib.Core.Path.{refl, sym, ap}
-use Rattle.dump.proofs.text.keep.Statement.{statement}
-use Rattle.dump.proofs.text.keep.Tie as tie
+use Rattle.dump.proofs.hex_text.keep.Statement.{statement}
+use Rattle.dump.proofs.hex_text.keep.Tie as tie
 
 same-length : tie.Need-same-length
 same-length c = ⊎-elim (λ w. rw (w .1) (simp length-set)) (λ w. ap length (w .1)) (c .if1 .came)

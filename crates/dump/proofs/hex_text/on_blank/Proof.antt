@@ -1,9 +1,9 @@
--- `dump::text::on_blank` meets its contract: each arm is the definition's case.
+-- `dump::hex_text::on_blank` meets its contract: each arm is the definition's case.
 -- Assumes nothing.
 use borrow.Author.Needs.{needs}
 use Rattle.dump.proofs.Arms as arms
-use Rattle.dump.proofs.text.on_blank.Statement.{statement}
-use Rattle.dump.proofs.text.on_blank.Tie as tie
+use Rattle.dump.proofs.hex_text.on_blank.Statement.{statement}
+use Rattle.dump.proofs.hex_text.on_blank.Tie as tie
 
 returns : tie.Need-returns
 returns c = rw (c .enum-told .given .1)

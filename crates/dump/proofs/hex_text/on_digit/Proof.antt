@@ -1,9 +1,9 @@
--- `dump::text::on_digit` meets its contract: each arm is the definition's case.
+-- `dump::hex_text::on_digit` meets its contract: each arm is the definition's case.
 -- Assumes nothing.
 use borrow.Author.Needs.{needs}
 use borrow.Author.Tests.{eq-eqb, ne-eqb}
-use Rattle.dump.proofs.text.on_digit.Statement.{statement}
-use Rattle.dump.proofs.text.on_digit.Tie as tie
+use Rattle.dump.proofs.hex_text.on_digit.Statement.{statement}
+use Rattle.dump.proofs.hex_text.on_digit.Tie as tie
 
 returns : tie.Need-returns
 returns c = rw (c .before .enum-told .given .1, eq-eqb _ 0 (c .if1 .taken))

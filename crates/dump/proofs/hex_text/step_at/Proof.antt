@@ -1,8 +1,8 @@
--- `dump::text::step_at` meets its contract: each arm is the definition's case.
+-- `dump::hex_text::step_at` meets its contract: each arm is the definition's case.
 -- Assumes nothing.
 use borrow.Author.Needs.{needs}
-use Rattle.dump.proofs.text.step_at.Statement.{statement}
-use Rattle.dump.proofs.text.step_at.Tie as tie
+use Rattle.dump.proofs.hex_text.step_at.Statement.{statement}
+use Rattle.dump.proofs.hex_text.step_at.Tie as tie
 
 returns : tie.Need-returns
 returns c = let k = c .before .before in rw (← k .before .before .kind-of .ensures, k .d .given .1) (c .on-digit .ensures)

@@ -1,4 +1,4 @@
--- `dump::text::finish` meets its contract: 128 bytes are an image, and nothing else is.
+-- `dump::hex_text::finish` meets its contract: 128 bytes are an image, and nothing else is.
 -- Assumes nothing.
 use borrow.Author.Needs.{needs}
 use Rattle.dump.proofs.Turns.{copied}
@@ -7,8 +7,8 @@ use Rattle.dump.proofs.Arms as arms
 use borrow.Author.Tests.{eq-eqb, ne-eqb}
 use native.Mathlib.Omega.{arith}
 use mathlib.Core.Path.{refl, _∙_}
-use Rattle.dump.proofs.text.finish.Statement.{statement}
-use Rattle.dump.proofs.text.finish.Tie as tie
+use Rattle.dump.proofs.hex_text.finish.Statement.{statement}
+use Rattle.dump.proofs.hex_text.finish.Tie as tie
 
 returns : tie.Need-returns
 returns c =
