@@ -9,8 +9,8 @@ use native.Mathlib.Omega.{arith}
 use lib.Dec.{eqb}
 use lib.ListN.{length, drop, getD}
 use lib.Seq.{drop-cons}
-use Rattle.reading.specs.Fields.{countOf, fieldAt}
-use Rattle.reading.specs.Words.{ascii, alike}
+use Rattle.text.specs.Fields.{countOf, fieldAt}
+use Rattle.text.specs.Words.{ascii, alike}
 use Rattle.arguments.specs.Arguments.{ofKind, misfitFrom, fit}
 
 pub none : (ks s : List ℕ) → length ks ≡ 0 → fit ks s ≡ alike s (ascii "-")

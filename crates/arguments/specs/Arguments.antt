@@ -5,13 +5,13 @@ use Prim.Native.Nat.{ℕ, suc, _+_}
 use lib.Dec.{eqb}
 use lib.IntN.{ℤ, pos}
 use lib.ListN.{length}
-use Rattle.decimals.specs.declared.Number.{Number}
-use Rattle.decimals.specs.declared.Number.the-variants as number
-use Rattle.decimals.specs.declared.Signed.{Signed}
-use Rattle.decimals.specs.declared.Signed.the-variants as signed
-use Rattle.decimals.specs.Decimal.{numberOf, signedOf}
-use Rattle.reading.specs.Fields.{countOf, fieldAt}
-use Rattle.reading.specs.Words.{ascii, alike}
+use Rattle.text.specs.declared.decimals.Number.{Number}
+use Rattle.text.specs.declared.decimals.Number.the-variants as number
+use Rattle.text.specs.declared.decimals.Signed.{Signed}
+use Rattle.text.specs.declared.decimals.Signed.the-variants as signed
+use Rattle.text.specs.Decimal.{numberOf, signedOf}
+use Rattle.text.specs.Fields.{countOf, fieldAt}
+use Rattle.text.specs.Words.{ascii, alike}
 use Rattle.commands.specs.Operations.{power}
 
 abbrev pub isNumber : Number → Bool

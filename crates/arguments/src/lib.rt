@@ -1,15 +1,10 @@
 // Arguments: whether a text has an operation's, and what they are.
 ghost use mathlib.Core.Path.{_≡_};
 ghost use Prim.Native.Nat.{_≤_};
-ghost use Rattle.decimals.specs.Decimal.{numberOf, signedOf};
+ghost use Rattle.text.specs.Decimal.{numberOf, signedOf};
 ghost use Rattle.commands.specs.Operations.{kinds as kindsOf, byte as byteMost, word as wordMost, hertz as hertzMost, count as countMost};
 ghost use Rattle.arguments.specs.Arguments.{isNumber, isSigned, ofKind, misfitFrom, fit as fitOf, argument, signedArgument};
 use commands::Operation;
-use decimals::Number;
-use decimals::Signed;
-use decimals::read_number;
-use decimals::read_signed;
-use reading::field;
 use signatures::BYTE;
 use signatures::COUNT;
 use signatures::HERTZ;
@@ -17,6 +12,12 @@ use signatures::POWER;
 use signatures::WORD;
 use signatures::argument_count;
 use signatures::argument_most;
+use text::decimals::Number;
+use text::decimals::Signed;
+use text::decimals::read_number;
+use text::decimals::read_signed;
+use text::reading;
+use text::reading::field;
 
 pub fn is_number(s: &[u8], most: u64) -> bool
     ensures { λ r. ⌜ r ≡ isNumber (numberOf most (now (s .entry))) ⌝ }

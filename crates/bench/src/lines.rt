@@ -1,10 +1,11 @@
 // What was found, beside what the bench says.
-use digits::put_decimal;
-use digits::put_signed;
-use hex::Case;
 use libc::STDOUT_FILENO;
-use printing::put_hex;
 use reports::wide;
+use text::digits::put_decimal;
+use text::digits::put_signed;
+use text::hex::Case;
+use text::printing::put_hex;
+use text::reading;
 
 pub fn text(t: &[u8]) {
     io::write_all(STDOUT_FILENO, t);

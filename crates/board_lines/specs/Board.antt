@@ -4,7 +4,7 @@ use mathlib.Core.List.{List, [], _++_}
 use Prim.Native.Nat.{ℕ}
 use Rattle.sheets.specs.declared.Variant.{Variant}
 use Rattle.sheets.specs.declared.Variant.the-variants.{Sx1272, Sx1276}
-use Rattle.reading.specs.Words.{ascii}
+use Rattle.text.specs.Words.{ascii}
 use Rattle.board_lines.specs.declared.Oscillator.{Oscillator}
 use Rattle.board_lines.specs.declared.Oscillator.the-variants.{Crystal, Tcxo, Either}
 

@@ -1,10 +1,10 @@
 // A board as a person wants it, in a line.
 ghost use Prim.Native.Nat.{_+_, _≤_};
 ghost use lib.ListN.{length};
-ghost use Rattle.printing.specs.Text.{Appended};
+ghost use Rattle.text.specs.Text.{Appended};
 ghost use Rattle.board_lines.specs.Board.{chipText, boostText, oscillatorText, boardLine};
-use printing::put;
 use sheets::Variant;
+use text::printing::put;
 
 // What is known of a board's oscillator.
 pub enum Oscillator {

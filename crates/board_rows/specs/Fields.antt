@@ -5,7 +5,7 @@ use Prim.Native.Nat.{ℕ}
 use Rattle.sheets.specs.declared.Variant.{Variant}
 use Rattle.sheets.specs.declared.Variant.the-variants.{Sx1272, Sx1276}
 use Rattle.registers.specs.declared.board.Board.{Board}
-use Rattle.reading.specs.Words.{ascii}
+use Rattle.text.specs.Words.{ascii}
 use Rattle.numerals.specs.Numbers.{counted}
 
 abbrev pub field : ℕ → List ℕ

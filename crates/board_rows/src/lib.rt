@@ -2,7 +2,7 @@
 ghost use mathlib.Core.Path.{_≡_};
 ghost use Prim.Native.Nat.{_+_, _≤_};
 ghost use lib.ListN.{length};
-ghost use Rattle.printing.specs.Text.{Appended};
+ghost use Rattle.text.specs.Text.{Appended};
 ghost use Rattle.board_rows.specs.Fields.{field, fourFields, chip as chipOf, bit as bitOf, boardFields};
 use numerals::put_counted;
 use registers::board::Board;

@@ -2,7 +2,7 @@
 use mathlib.Core.Bool.{cond}
 use mathlib.Core.List.{List, [], _∷_}
 use Prim.Native.Nat.{ℕ}
-use Rattle.reading.specs.Words.{ascii, alike}
+use Rattle.text.specs.Words.{ascii, alike}
 use Rattle.board_words.specs.declared.Word.{Word}
 use Rattle.board_words.specs.declared.Word.the-variants.{Sx1272, Sx1276, Tcxo, Boost, RxBoost, Other}
 

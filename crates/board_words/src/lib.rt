@@ -1,9 +1,9 @@
 // The words that say a board on a command line: its chip, its oscillator, its amplifiers.
 ghost use mathlib.Core.Path.{_≡_};
 ghost use mathlib.Core.Bool.{cond};
-ghost use Rattle.reading.specs.Words.{alike};
+ghost use Rattle.text.specs.Words.{alike};
 ghost use Rattle.board_words.specs.Words.{wordOf};
-use reading::same;
+use text::reading::same;
 
 pub enum Word {
     Sx1272,

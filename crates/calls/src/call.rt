@@ -8,12 +8,14 @@ use arguments::count;
 use commands::Named;
 use commands::Operation;
 use commands::operation_named;
-use hex::Bytes;
-use hex::Case;
-use reading::field;
 use registers::board::Board;
 use requests::Flaw;
 use sheets::Variant;
+use text::hex;
+use text::hex::Bytes;
+use text::hex::Case;
+use text::reading;
+use text::reading::field;
 
 const TAB: u8 = b'\t';
 

@@ -7,8 +7,8 @@ use Prim.Native.Nat.{ℕ, _+_, _<_}
 use native.Mathlib.Numerals.{add-one}
 use lib.ListN.{length, drop, getD}
 use lib.Seq.{drop-cons}
-use Rattle.reading.specs.Fields.{fieldAt}
-use Rattle.reading.specs.Words.{alike}
+use Rattle.text.specs.Fields.{fieldAt}
+use Rattle.text.specs.Words.{alike}
 use Rattle.commands.specs.declared.Operation.{Operation}
 use Rattle.commands.specs.declared.Operation.the-variants.{InitLora}
 use Rattle.commands.specs.declared.Named.the-variants.{Known}

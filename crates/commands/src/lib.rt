@@ -3,8 +3,8 @@ ghost use mathlib.Core.Path.{_≡_};
 ghost use Prim.Native.Nat.{_<_};
 ghost use lib.ListN.{getD};
 ghost use Rattle.commands.specs.Operations.{foundFrom, operations, operationOf};
-use reading::field;
-use reading::same;
+use text::reading::field;
+use text::reading::same;
 
 pub enum Operation {
     InitLora,

@@ -11,7 +11,7 @@ use lib.ListN.{length, take, drop, getD, drop-of-length-le}
 use lib.Seq.{drop-cons, take-length}
 use Rattle.dump.specs.declared.hex_text.State.{State}
 use Rattle.dump.specs.Text.{stepAt, next, given, bytesFrom, unless, verdictFrom}
-use Rattle.reading.proofs.Tests.{and-true}
+use Rattle.text.proofs.reading.Tests.{and-true}
 use Rattle.dump.specs.Dump.{isRaw}
 
 module _ (s : List ℕ) (i : ℕ) (h : i < length s) where

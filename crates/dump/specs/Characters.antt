@@ -2,7 +2,7 @@
 use mathlib.Core.Bool.{Bool, cond, _&&_, _||_}
 use Prim.Native.Nat.{ℕ}
 use lib.Dec.{eqb, leb}
-use Rattle.hex.specs.Hex.{isNibble, nibble}
+use Rattle.text.specs.Hex.{isNibble, nibble}
 use Rattle.dump.specs.declared.characters.Kind.{Kind}
 use Rattle.dump.specs.declared.characters.Kind.the-variants.{Digit, Blank, X, Other}
 

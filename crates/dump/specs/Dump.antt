@@ -4,7 +4,7 @@ use mathlib.Core.List.{List}
 use Prim.Native.Nat.{ℕ}
 use lib.Dec.{eqb}
 use lib.ListN.{length}
-use Rattle.reading.specs.Words.{all}
+use Rattle.text.specs.Words.{all}
 use Rattle.dump.specs.declared.characters.Kind.{Kind}
 use Rattle.dump.specs.declared.characters.Kind.the-variants.{Digit, Blank, X, Other}
 use Rattle.dump.specs.declared.hex_text.State.the-variants.{Between}

@@ -2,8 +2,8 @@
 ghost use mathlib.Core.Path.{_≡_};
 ghost use Rattle.dump.specs.Characters.{isBlank, isX, kindOf};
 ghost use Rattle.dump.specs.Dump.{couldBeHex};
-use hex::is_nibble;
-use hex::nibble;
+use text::hex::is_nibble;
+use text::hex::nibble;
 
 pub(crate) enum Kind {
     Digit(u8),

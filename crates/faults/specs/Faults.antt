@@ -2,9 +2,9 @@
 use mathlib.Core.List.{List, [], _∷_, _++_}
 use Prim.Native.Nat.{ℕ}
 use lib.ListN.{length, take, getD}
-use Rattle.hex.specs.declared.Case.the-variants.{Upper}
-use Rattle.reading.specs.Words.{ascii}
-use Rattle.printing.specs.Numbers.{decimal, hex}
+use Rattle.text.specs.declared.hex.Case.the-variants.{Upper}
+use Rattle.text.specs.Words.{ascii}
+use Rattle.text.specs.Numbers.{decimal, hex}
 use Rattle.dump.specs.declared.hex_text.Read.{Read}
 use Rattle.dump.specs.declared.hex_text.Read.the-variants.{Image, Bytes, Missing, Bad}
 use Rattle.faults.specs.Spot.{lineFrom, columnFrom}

@@ -4,14 +4,14 @@ mod spot;
 ghost use mathlib.Core.Path.{_≡_};
 ghost use Prim.Native.Nat.{_+_, _≤_};
 ghost use lib.ListN.{length, take, getD};
-ghost use Rattle.printing.specs.Text.{Appended};
+ghost use Rattle.text.specs.Text.{Appended};
 ghost use Rattle.faults.specs.Faults.{placeText, badText, countText, faultText};
-use digits::put_decimal;
 use dump::Read;
-use hex::Case;
-use printing::put;
-use printing::put_hex;
 use spot::spot_behind;
+use text::digits::put_decimal;
+use text::hex::Case;
+use text::printing::put;
+use text::printing::put_hex;
 
 // The text before a place.
 fn before(s: &[u8], at: usize) -> &[u8]

@@ -3,8 +3,8 @@ use mathlib.Core.Bool.{cond}
 use mathlib.Core.List.{List, [], _∷_, _++_}
 use Prim.Native.Nat.{ℕ, _+_, _/_, _%_}
 use lib.Dec.{eqb}
-use Rattle.reading.specs.Words.{ascii}
-use Rattle.printing.specs.Numbers.{decimal}
+use Rattle.text.specs.Words.{ascii}
+use Rattle.text.specs.Numbers.{decimal}
 
 -- the last two digits
 abbrev pub twoDigits : ℕ → List ℕ

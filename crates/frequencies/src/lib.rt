@@ -3,11 +3,11 @@ ghost use mathlib.Core.Path.{_≡_};
 ghost use Prim.Native.Nat.{_+_, _≤_};
 ghost use lib.ListN.{length};
 ghost use Rattle.sheets.specs.Modem.{hertz};
-ghost use Rattle.printing.specs.Text.{Appended};
+ghost use Rattle.text.specs.Text.{Appended};
 ghost use Rattle.frequencies.specs.Frequencies.{twoDigits, sixDigits, megahertz, kilohertz};
-use digits::put_decimal;
-use printing::put;
 use sheets::bandwidth_hertz;
+use text::digits::put_decimal;
+use text::printing::put;
 
 fn put_two_digits(n: u32, out: &mut [u8], at: usize) -> usize
     requires { ⌜ at + 2 ≤ length (now out) ⌝ }

@@ -2,7 +2,7 @@
 use mathlib.Core.List.{List, _++_}
 use Prim.Native.Nat.{ℕ}
 use Rattle.sheets.specs.Frequency.{steps, frfMsb, frfMid, frfLsb}
-use Rattle.reading.specs.Words.{ascii}
+use Rattle.text.specs.Words.{ascii}
 use Rattle.frequencies.specs.Frequencies.{megahertz}
 use Rattle.numerals.specs.Numbers.{counted, bytesText}
 

@@ -2,12 +2,12 @@
 ghost use Prim.Native.Nat.{_+_, _≤_};
 ghost use lib.ListN.{length};
 ghost use Rattle.sheets.specs.Frequency.{steps};
-ghost use Rattle.printing.specs.Text.{Appended};
+ghost use Rattle.text.specs.Text.{Appended};
 ghost use Rattle.frequency_lines.specs.Lines.{stepText, frequencyLine};
 use frequencies::put_megahertz;
 use numerals::put_bytes;
 use numerals::put_counted;
-use printing::put;
+use text::printing::put;
 use units::Hertz;
 
 fn put_step(hz: Hertz, out: &mut [u8], at: usize) -> usize

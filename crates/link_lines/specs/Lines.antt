@@ -4,7 +4,7 @@ use mathlib.Core.List.{List, _++_}
 use Prim.Native.Nat.{ℕ, _+_}
 use Rattle.sheets.specs.Modem.{hertz}
 use Rattle.params.specs.declared.mod_params.Link.{Link}
-use Rattle.reading.specs.Words.{ascii}
+use Rattle.text.specs.Words.{ascii}
 use Rattle.frequencies.specs.Frequencies.{kilohertz}
 use Rattle.numerals.specs.Numbers.{counted, choice}
 use Rattle.frequency_lines.specs.Lines.{frequencyLine}

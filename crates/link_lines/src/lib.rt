@@ -2,7 +2,7 @@
 ghost use mathlib.Core.List.{_++_};
 ghost use Prim.Native.Nat.{_+_, _≤_};
 ghost use lib.ListN.{length};
-ghost use Rattle.printing.specs.Text.{Appended};
+ghost use Rattle.text.specs.Text.{Appended};
 ghost use Rattle.frequency_lines.specs.Lines.{frequencyLine};
 ghost use Rattle.link_lines.specs.Lines.{syncLine, bandwidthLine, modemLines, packetLines, linkLines};
 use frequencies::hertz_of;
@@ -13,7 +13,7 @@ use numerals::put_counted;
 use params::mod_params::Link;
 use power_lines::put_pin;
 use power_lines::put_power;
-use printing::put;
+use text::printing::put;
 
 fn put_bandwidth(bw: u8, out: &mut [u8], at: usize) -> usize
     requires { ⌜ at + 60 ≤ length (now out) ⌝ }

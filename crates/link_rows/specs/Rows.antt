@@ -4,8 +4,8 @@ use Prim.Native.Nat.{ℕ, _+_}
 use lib.IntN.{ℤ}
 use Rattle.sheets.specs.Modem.{hertz}
 use Rattle.params.specs.declared.mod_params.Link.{Link}
-use Rattle.reading.specs.Words.{ascii}
-use Rattle.printing.specs.Numbers.{signed}
+use Rattle.text.specs.Words.{ascii}
+use Rattle.text.specs.Numbers.{signed}
 use Rattle.board_rows.specs.Fields.{field, fourFields}
 
 abbrev pub lastFields : ℕ → ℤ → List ℕ

@@ -1,14 +1,14 @@
 // A link as a row of a table: numbers alone, with a tab before each.
 ghost use Prim.Native.Nat.{_+_, _≤_};
 ghost use lib.ListN.{length};
-ghost use Rattle.printing.specs.Text.{Appended};
+ghost use Rattle.text.specs.Text.{Appended};
 ghost use Rattle.link_rows.specs.Rows.{modemFields, packetFields, lastFields, linkFields};
 use board_rows::put_field;
 use board_rows::put_four;
-use digits::put_signed;
 use frequencies::hertz_of;
 use params::mod_params::Link;
-use printing::put;
+use text::digits::put_signed;
+use text::printing::put;
 
 fn put_last(iq_inverted: u8, power: i32, out: &mut [u8], at: usize) -> usize
     requires { ⌜ at + 100 ≤ length (now out) ⌝ }

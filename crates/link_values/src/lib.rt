@@ -2,15 +2,15 @@
 ghost use Prim.Native.Nat.{_+_, _≤_};
 ghost use lib.ListN.{length};
 ghost use Rattle.params.specs.Answers.{linkValues, tellsLink};
-ghost use Rattle.printing.specs.Text.{Appended};
+ghost use Rattle.text.specs.Text.{Appended};
 ghost use Rattle.replies.specs.Answers.{valuesText, answerText};
 ghost use Rattle.link_values.specs.Link.{unsignedValues};
 use params::answers::LinkAnswer;
 use params::mod_params::Link;
-use printing::put;
 use replies::put_refusal;
 use replies::put_value;
 use replies::put_values;
+use text::printing::put;
 
 // All of a link but the power.
 fn put_unsigned(l: Link, out: &mut [u8], at: usize) -> usize

@@ -12,7 +12,7 @@ use libc::ENOENT;
 use libc::STDERR_FILENO;
 use libc::STDIN_FILENO;
 use libc::STDOUT_FILENO;
-use reading::same;
+use text::reading::same;
 
 fn voice(a: Asked) -> i32 {
     if a.aloud {

@@ -2,7 +2,7 @@
 use board_words::Word;
 use board_words::board_word;
 use libc::STDERR_FILENO;
-use reading::same;
+use text::reading::same;
 
 // The chip is 0 where no word names one. Wrong is an option that is none, a second chip, a word that is too long, or what a board
 // has without a chip; it is told where it is found.

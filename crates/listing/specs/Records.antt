@@ -4,9 +4,9 @@ use mathlib.Core.List.{List, [], _∷_, _++_}
 use Prim.Native.Nat.{ℕ}
 use lib.Dec.{ltb}
 use lib.ListN.{getD}
-use Rattle.hex.specs.declared.Case.the-variants.{Upper}
-use Rattle.reading.specs.Words.{ascii}
-use Rattle.printing.specs.Numbers.{hex}
+use Rattle.text.specs.declared.hex.Case.the-variants.{Upper}
+use Rattle.text.specs.Words.{ascii}
+use Rattle.text.specs.Numbers.{hex}
 
 -- document 01's letters for the kinds 0 to 6; a kind that there is not is a question mark
 abbrev pub letterOf : ℕ → ℕ

@@ -2,11 +2,11 @@
 ghost use mathlib.Core.Path.{_≡_};
 ghost use Prim.Native.Nat.{_+_, _*_, _≤_};
 ghost use lib.ListN.{length};
-ghost use Rattle.printing.specs.Text.{Appended};
+ghost use Rattle.text.specs.Text.{Appended};
 ghost use Rattle.listing.specs.Records.{letterOf, recordText, recordsText};
-use hex::Case;
-use printing::put;
-use printing::put_hex;
+use text::hex::Case;
+use text::printing::put;
+use text::printing::put_hex;
 
 const LETTERS: [u8; 7] = [b'R', b'W', b'F', b'G', b'S', b'P', b'Z'];
 

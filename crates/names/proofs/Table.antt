@@ -9,8 +9,8 @@ use Rattle.bytes.specs.Bytes.{indexOf, indexAfter}
 use Rattle.params.specs.declared.mod_params.RadioError.{RadioError}
 use Rattle.params.specs.declared.mod_params.RadioError.the-variants.{SPI, Reset, RfSwitchRx, RfSwitchTx, Busy, Irq, DIO1, InvalidConfiguration, InvalidRadioMode, OpError, InvalidBaseAddress, PayloadSizeUnexpected, PayloadSizeMismatch, UnavailableSpreadingFactor, UnavailableBandwidth, InvalidBandwidthForFrequency, InvalidSF6ExplicitHeaderRequest, InvalidOutputPowerForFrequency, TransmitTimeout, ReceiveTimeout, DutyCycleUnsupported, RngUnsupported, FrequencyOutOfRange, LogFull, CarrierUnsupported, BadImage, NotALink}
 use Rattle.params.specs.Errors.{numberOf}
-use Rattle.reading.specs.Fields.{fieldAt}
-use Rattle.reading.specs.Words.{ascii}
+use Rattle.text.specs.Fields.{fieldAt}
+use Rattle.text.specs.Words.{ascii}
 use Rattle.names.specs.Names.{nameOf}
 
 abbrev pub table : List ℕ

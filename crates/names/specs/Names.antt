@@ -4,7 +4,7 @@ use Prim.Native.Nat.{ℕ}
 use Rattle.params.specs.declared.mod_params.RadioError.{RadioError}
 use Rattle.params.specs.declared.mod_params.RadioError.the-variants.{SPI, Reset, RfSwitchRx, RfSwitchTx, Busy, Irq, DIO1, InvalidConfiguration, InvalidRadioMode, OpError, InvalidBaseAddress, PayloadSizeUnexpected, PayloadSizeMismatch, UnavailableSpreadingFactor, UnavailableBandwidth, InvalidBandwidthForFrequency, InvalidSF6ExplicitHeaderRequest, InvalidOutputPowerForFrequency, TransmitTimeout, ReceiveTimeout, DutyCycleUnsupported, RngUnsupported, FrequencyOutOfRange, LogFull, CarrierUnsupported, BadImage, NotALink}
 use Rattle.params.specs.Errors.{refusal}
-use Rattle.reading.specs.Words.{ascii}
+use Rattle.text.specs.Words.{ascii}
 use Rattle.replies.specs.Answers.{answerText}
 
 abbrev pub nameOf : RadioError → List ℕ

@@ -1,12 +1,12 @@
 // Refusals for people: the number, its values and the error's name, as a line.
 ghost use Prim.Native.Nat.{_+_, _≤_};
 ghost use lib.ListN.{length};
-ghost use Rattle.printing.specs.Text.{Appended};
+ghost use Rattle.text.specs.Text.{Appended};
 ghost use Rattle.names.specs.Names.{nameOf, refusedText};
 use params::mod_params::RadioError;
-use printing::put;
-use reading::field;
 use replies::put_refusal;
+use text::printing::put;
+use text::reading::field;
 
 pub fn put_name(e: RadioError, out: &mut [u8], at: usize) -> usize
     requires { ⌜ at + 31 ≤ length (now out) ⌝ }

@@ -3,9 +3,9 @@ use mathlib.Core.Bool.{cond}
 use mathlib.Core.List.{List, [], _∷_, _++_}
 use Prim.Native.Nat.{ℕ}
 use lib.Dec.{eqb}
-use Rattle.hex.specs.declared.Case.the-variants.{Upper}
-use Rattle.reading.specs.Words.{ascii}
-use Rattle.printing.specs.Numbers.{decimal, hex}
+use Rattle.text.specs.declared.hex.Case.the-variants.{Upper}
+use Rattle.text.specs.Words.{ascii}
+use Rattle.text.specs.Numbers.{decimal, hex}
 
 abbrev pub counted : List ℕ → ℕ → List ℕ → List ℕ
 counted name n unit = name ++ (decimal n ++ unit)

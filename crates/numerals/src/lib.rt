@@ -2,13 +2,13 @@
 ghost use mathlib.Core.List.{_++_};
 ghost use Prim.Native.Nat.{_+_, _≤_};
 ghost use lib.ListN.{length};
-ghost use Rattle.reading.specs.Words.{ascii};
-ghost use Rattle.printing.specs.Text.{Appended};
+ghost use Rattle.text.specs.Words.{ascii};
+ghost use Rattle.text.specs.Text.{Appended};
 ghost use Rattle.numerals.specs.Numbers.{counted, choice, byteText, bytesText};
-use digits::put_decimal;
-use hex::Case;
-use printing::put;
-use printing::put_hex;
+use text::digits::put_decimal;
+use text::hex::Case;
+use text::printing::put;
+use text::printing::put_hex;
 
 pub fn put_counted(name: &[u8], n: u64, unit: &[u8], out: &mut [u8], at: usize) -> usize
     requires { ⌜ (length (now name) ≤ 24) × (length (now unit) ≤ 16) × (at + 60 ≤ length (now out)) ⌝ }

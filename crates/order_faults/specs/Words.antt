@@ -3,8 +3,8 @@ use mathlib.Core.Bool.{cond}
 use mathlib.Core.List.{List, _++_}
 use Prim.Native.Nat.{ℕ}
 use lib.Dec.{eqb}
-use Rattle.reading.specs.Words.{ascii}
-use Rattle.printing.specs.Numbers.{decimal}
+use Rattle.text.specs.Words.{ascii}
+use Rattle.text.specs.Numbers.{decimal}
 use Rattle.commands.specs.Operations.{power}
 use Rattle.orders.specs.declared.Expected.{Expected}
 use Rattle.orders.specs.declared.Expected.the-variants.{Command, Number, Bytes, Nothing}

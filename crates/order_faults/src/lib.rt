@@ -1,12 +1,12 @@
 // What is wrong with a line that is no command, in words.
 ghost use Prim.Native.Nat.{_+_, _≤_};
 ghost use lib.ListN.{length};
-ghost use Rattle.printing.specs.Text.{Appended};
+ghost use Rattle.text.specs.Text.{Appended};
 ghost use Rattle.order_faults.specs.Words.{rangeText, expectedText, placeText, wrongText};
-use digits::put_decimal;
 use orders::Expected;
-use printing::put;
 use signatures::POWER;
+use text::digits::put_decimal;
+use text::printing::put;
 
 fn put_range(most: u64, out: &mut [u8], at: usize) -> usize
     requires { ⌜ at + 60 ≤ length (now out) ⌝ }

@@ -4,10 +4,10 @@ use mathlib.Core.List.{List}
 use Prim.Native.Nat.{ℕ, _+_}
 use lib.Dec.{leb, ltb}
 use lib.ListN.{length, getD}
-use Rattle.hex.specs.declared.Case.the-variants.{Lower, Upper}
-use Rattle.reading.specs.Fields.{countOf, fieldAt}
-use Rattle.hex.specs.Hex.{ten, hexDigits}
-use Rattle.reading.specs.Words.{ascii, alike}
+use Rattle.text.specs.declared.hex.Case.the-variants.{Lower, Upper}
+use Rattle.text.specs.Fields.{countOf, fieldAt}
+use Rattle.text.specs.Hex.{ten, hexDigits}
+use Rattle.text.specs.Words.{ascii, alike}
 use Rattle.commands.specs.declared.Operation.{Operation}
 use Rattle.commands.specs.declared.Named.{Named}
 use Rattle.commands.specs.declared.Named.the-variants.{Known, Unknown}

@@ -5,13 +5,14 @@ ghost use Rattle.orders.specs.Orders.{isBytes, isSend, surplusFlaw, byte
 use arguments::misfit;
 use commands::Named;
 use commands::Operation;
-use hex::Case;
-use hex::is_hex;
-use reading::field;
-use reading::same;
 use shorthand::command_named;
 use signatures::argument_count;
 use signatures::argument_most;
+use text::hex::Case;
+use text::hex::is_hex;
+use text::reading;
+use text::reading::field;
+use text::reading::same;
 
 const TAB: u8 = b'\t';
 

@@ -4,9 +4,9 @@ use mathlib.Core.List.{List, _++_}
 use Prim.Native.Nat.{ℕ}
 use lib.Dec.{eqb}
 use lib.ListN.{length}
-use Rattle.hex.specs.declared.Case.the-variants.{Lower}
-use Rattle.reading.specs.Words.{ascii}
-use Rattle.printing.specs.Numbers.{decimal, hex}
+use Rattle.text.specs.declared.hex.Case.the-variants.{Lower}
+use Rattle.text.specs.Words.{ascii}
+use Rattle.text.specs.Numbers.{decimal, hex}
 
 -- a tab, and the bytes in hexadecimal digits, or `-` for none
 abbrev pub lentText : List ℕ → List ℕ

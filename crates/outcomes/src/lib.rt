@@ -2,12 +2,12 @@
 ghost use mathlib.Core.List.{_++_};
 ghost use Prim.Native.Nat.{_+_, _*_, _≤_};
 ghost use lib.ListN.{length};
-ghost use Rattle.printing.specs.Text.{Appended};
+ghost use Rattle.text.specs.Text.{Appended};
 ghost use Rattle.outcomes.specs.Outcomes.{lentText, usedText, leftText};
-use digits::put_decimal;
-use hex::Case;
-use printing::put;
-use printing::put_hex;
+use text::digits::put_decimal;
+use text::hex::Case;
+use text::printing::put;
+use text::printing::put_hex;
 
 fn put_lent(s: &[u8], out: &mut [u8], at: usize) -> usize
     requires { ⌜ at + 2 + 2 * length (now s) ≤ length (now out) ⌝ }

@@ -4,8 +4,8 @@ use mathlib.Core.List.{List, _++_}
 use Prim.Native.Nat.{ℕ}
 use lib.Dec.{ltb}
 use lib.IntN.{ℤ}
-use Rattle.reading.specs.Words.{ascii}
-use Rattle.printing.specs.Numbers.{signed}
+use Rattle.text.specs.Words.{ascii}
+use Rattle.text.specs.Numbers.{signed}
 
 abbrev pub powerLine : ℤ → List ℕ
 powerLine p = ascii "power             " ++ (signed p ++ ascii " dBm\n")

@@ -1,10 +1,10 @@
 // The lines of a link's power: in dBm, and the pin that it goes out at.
 ghost use Prim.Native.Nat.{_+_, _≤_, _<_};
 ghost use lib.ListN.{length};
-ghost use Rattle.printing.specs.Text.{Appended};
+ghost use Rattle.text.specs.Text.{Appended};
 ghost use Rattle.power_lines.specs.Lines.{powerLine, pinLine};
-use digits::put_signed;
-use printing::put;
+use text::digits::put_signed;
+use text::printing::put;
 
 pub fn put_power(power: i32, out: &mut [u8], at: usize) -> usize
     requires { ⌜ at + 50 ≤ length (now out) ⌝ }

@@ -1,7 +1,6 @@
 // What a call appended and answered, as lines in a lent place. Each function answers where they end.
 ghost use Prim.Native.Nat.{_≤_};
 ghost use lib.ListN.{length};
-use hex::Case;
 use listing::put_records;
 use names::put_refused;
 use params::answers::Answer;
@@ -12,8 +11,9 @@ use params::answers::PacketAnswer;
 use params::answers::PayloadAnswer;
 use params::answers::StatusAnswer;
 use params::mod_params::RadioError;
-use printing::put;
-use printing::put_hex;
+use text::hex::Case;
+use text::printing::put;
+use text::printing::put_hex;
 
 // The records of a log that are used.
 fn records(log: &[u8], used: usize, out: &mut [u8]) -> usize

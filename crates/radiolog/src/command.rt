@@ -5,12 +5,13 @@ use crate::answers;
 use bytes::scan::find;
 use commands::Named;
 use commands::Operation;
-use hex::Bytes;
-use hex::Case;
 use params::answers::Answer;
-use reading::field;
 use registers::board::Board;
 use shorthand::command_named;
+use text::hex;
+use text::hex::Bytes;
+use text::hex::Case;
+use text::reading::field;
 
 const TAB: u8 = b'\t';
 

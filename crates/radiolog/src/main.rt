@@ -7,8 +7,8 @@ use board_words::Word;
 use boards::Worded;
 use libc::STDERR_FILENO;
 use libc::STDOUT_FILENO;
-use reading::same;
 use registers::board::Board;
+use text::reading::same;
 
 // The board that the words so far make, and whether one of them named its chip.
 struct Said {

@@ -13,7 +13,7 @@ use Rattle.params.specs.declared.mod_params.RadioError.{RadioError}
 use Rattle.params.specs.declared.mod_params.RadioError.the-variants.{SPI, Reset, RfSwitchRx, RfSwitchTx, Busy, Irq, DIO1, InvalidConfiguration, InvalidRadioMode, OpError, InvalidBaseAddress, PayloadSizeUnexpected, PayloadSizeMismatch, UnavailableSpreadingFactor, UnavailableBandwidth, InvalidBandwidthForFrequency, InvalidSF6ExplicitHeaderRequest, InvalidOutputPowerForFrequency, TransmitTimeout, ReceiveTimeout, DutyCycleUnsupported, RngUnsupported, FrequencyOutOfRange, LogFull, CarrierUnsupported, BadImage, NotALink}
 use Rattle.params.specs.Errors.{valuesOf, told}
 use Rattle.params.proofs.mod_params.RadioError.{the-type}
-use Rattle.printing.specs.Numbers.{decimal, signed}
+use Rattle.text.specs.Numbers.{decimal, signed}
 use Rattle.replies.specs.Answers.{plain, valuesText, answerText}
 
 pub value-more : (vs : List ℕ) (i : ℕ) → i < length vs

@@ -3,7 +3,7 @@ use mathlib.Core.List.{List, [], _∷_, _++_}
 use Prim.Native.Nat.{ℕ}
 use lib.IntN.{ℤ, pos}
 use Rattle.params.specs.Errors.{Told}
-use Rattle.printing.specs.Numbers.{decimal, signed}
+use Rattle.text.specs.Numbers.{decimal, signed}
 
 -- values that have no sign
 abbrev pub plain : List ℕ → List ℤ

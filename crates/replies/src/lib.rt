@@ -3,12 +3,12 @@ ghost use Prim.Native.Nat.{_+_, _*_, _≤_};
 ghost use mathlib.Core.List.{[], _∷_};
 ghost use lib.ListN.{length};
 ghost use Rattle.params.specs.Errors.{refusal};
-ghost use Rattle.printing.specs.Text.{Appended};
+ghost use Rattle.text.specs.Text.{Appended};
 ghost use Rattle.replies.specs.Answers.{plain, valuesText, answerText};
-use digits::put_decimal;
-use digits::put_signed;
 use params::mod_params::RadioError;
-use printing::put;
+use text::digits::put_decimal;
+use text::digits::put_signed;
+use text::printing::put;
 
 pub fn put_values(vs: &[u64], out: &mut [u8], at: usize) -> usize
     requires { ⌜ at + 21 * length (now vs) ≤ length (now out) ⌝ }

@@ -6,16 +6,16 @@ ghost use lib.IntN.{pos};
 ghost use lib.ListN.{length};
 ghost use Rattle.params.specs.Errors.{told};
 ghost use Rattle.params.specs.Answers.{flagValue, tellsDone, tellsPayload, tellsStatus, tellsIrq};
-ghost use Rattle.printing.specs.Text.{Appended};
+ghost use Rattle.text.specs.Text.{Appended};
 ghost use Rattle.replies.specs.Answers.{answerText};
 use params::answers::Answer;
 use params::answers::IrqAnswer;
 use params::answers::PayloadAnswer;
 use params::answers::StatusAnswer;
-use printing::put;
 use replies::put_refusal;
 use replies::put_value;
 use replies::put_values;
+use text::printing::put;
 
 pub fn put_done(a: Answer, out: &mut [u8], at: usize) -> usize
     requires { ⌜ at + 230 ≤ length (now out) ⌝ }

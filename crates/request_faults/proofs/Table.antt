@@ -5,7 +5,7 @@ use Prim.Native.Nat.{_≤_}
 use lib.Dec.{lit≤}
 use lib.ListN.{length}
 use Rattle.bytes.specs.Bytes.{indexOf, indexAfter}
-use Rattle.reading.specs.Fields.{fieldAt}
+use Rattle.text.specs.Fields.{fieldAt}
 use Rattle.commands.specs.declared.Operation.{Operation}
 use Rattle.commands.specs.declared.Operation.the-variants.{InitLora, CreateModulationParams, CreatePacketParams, Reset, SetStandby, SetSleep, SetTxRxBufferBaseAddress, SetTxPowerAndRampTime, SetModulationParams, SetPacketParams, SetChannel, SetPayload, DoTx, DoRx, GetRxPayload, GetRxPacketStatus, DoCad, SetIrqParams, ProcessIrqEvent, SetTxContinuousWaveMode, Program, ReadLink}
 use Rattle.commands.specs.Operations.{arguments}

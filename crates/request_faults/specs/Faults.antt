@@ -1,8 +1,8 @@
 -- What is wrong with a line that is no call, in words.
 use mathlib.Core.List.{List, _++_}
 use Prim.Native.Nat.{ℕ}
-use Rattle.reading.specs.Words.{ascii}
-use Rattle.printing.specs.Numbers.{decimal}
+use Rattle.text.specs.Words.{ascii}
+use Rattle.text.specs.Numbers.{decimal}
 use Rattle.commands.specs.declared.Operation.{Operation}
 use Rattle.commands.specs.Operations.{arguments}
 use Rattle.requests.specs.declared.Fault.{Fault}

@@ -2,16 +2,16 @@
 ghost use mathlib.Core.List.{_++_};
 ghost use Prim.Native.Nat.{_+_, _≤_};
 ghost use lib.ListN.{length};
-ghost use Rattle.reading.specs.Words.{ascii};
-ghost use Rattle.printing.specs.Text.{Appended};
-ghost use Rattle.printing.specs.Numbers.{decimal};
+ghost use Rattle.text.specs.Words.{ascii};
+ghost use Rattle.text.specs.Text.{Appended};
+ghost use Rattle.text.specs.Numbers.{decimal};
 ghost use Rattle.request_faults.specs.Faults.{wanted, words};
 use commands::Operation;
-use digits::put_decimal;
-use printing::put;
-use reading::field;
 use requests::Fault;
 use signatures::row_of;
+use text::digits::put_decimal;
+use text::printing::put;
+use text::reading::field;
 
 fn put_wanted(o: Operation, out: &mut [u8], at: usize) -> usize
     requires { ⌜ at + 300 ≤ length (now out) ⌝ }

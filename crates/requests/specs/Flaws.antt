@@ -4,11 +4,11 @@ use mathlib.Core.List.{List}
 use Prim.Native.Nat.{ℕ}
 use lib.Dec.{eqb, leb}
 use lib.ListN.{length}
-use Rattle.hex.specs.declared.Case.the-variants.{Lower}
-use Rattle.decimals.specs.Decimal.{numberOf}
-use Rattle.reading.specs.Fields.{countOf, fieldAt}
-use Rattle.hex.specs.Hex.{ten, hexDigits}
-use Rattle.reading.specs.Words.{ascii, alike}
+use Rattle.text.specs.declared.hex.Case.the-variants.{Lower}
+use Rattle.text.specs.Decimal.{numberOf}
+use Rattle.text.specs.Fields.{countOf, fieldAt}
+use Rattle.text.specs.Hex.{ten, hexDigits}
+use Rattle.text.specs.Words.{ascii, alike}
 use Rattle.commands.specs.declared.Named.{Named}
 use Rattle.commands.specs.declared.Named.the-variants.{Known, Unknown}
 use Rattle.requests.specs.declared.Fault.{Fault}

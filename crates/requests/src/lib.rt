@@ -6,9 +6,11 @@ use arguments::is_number;
 use commands::Named;
 use commands::Operation;
 use commands::operation_named;
-use hex::Case;
-use reading::field;
-use reading::same;
+use text::hex;
+use text::hex::Case;
+use text::reading;
+use text::reading::field;
+use text::reading::same;
 
 const TAB: u8 = b'\t';
 

@@ -1,7 +1,7 @@
 -- The register that rules a link out, and what it holds.
 use mathlib.Core.List.{List, _++_}
 use Prim.Native.Nat.{ℕ}
-use Rattle.reading.specs.Words.{ascii}
+use Rattle.text.specs.Words.{ascii}
 use Rattle.numerals.specs.Numbers.{byteText}
 
 -- both bytes, each behind the words for it

@@ -1,10 +1,10 @@
 // The register that rules a link out, and what it holds: as a line, and as the last fields of a row.
 ghost use Prim.Native.Nat.{_+_, _≤_};
 ghost use lib.ListN.{length};
-ghost use Rattle.printing.specs.Text.{Appended};
+ghost use Rattle.text.specs.Text.{Appended};
 ghost use Rattle.ruled_out.specs.RuledOut.{ruledOut, ruledOutLine, ruledOutFields};
 use numerals::put_byte;
-use printing::put;
+use text::printing::put;
 
 // Each byte behind the words for it.
 fn put_both(named: &[u8], register: u8, holds: &[u8], value: u8, out: &mut [u8], at: usize) -> usize

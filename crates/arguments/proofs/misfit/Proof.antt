@@ -3,7 +3,7 @@
 use borrow.Author.Needs.{needs}
 use Prim.Native.Nat.{_+_}
 use Rattle.arguments.specs.Arguments.{ofKind, misfitFrom}
-use Rattle.reading.specs.Fields.{fieldAt}
+use Rattle.text.specs.Fields.{fieldAt}
 use lib.ListN.{getD}
 use mathlib.Core.Bool.{true, false}
 use Rattle.arguments.proofs.Fits.{fits, misfits}

@@ -4,9 +4,9 @@ use borrow.Author.Needs.{needs}
 use mathlib.Core.Path.{_≡_}
 use native.Mathlib.Omega.{arith}
 use denote.Ref.{now}
-use Rattle.reading.specs.Fields.{fieldAt}
+use Rattle.text.specs.Fields.{fieldAt}
 use Rattle.arguments.specs.Arguments.{argument}
-use Rattle.decimals.proofs.Valued.{within}
+use Rattle.text.proofs.decimals.Valued.{within}
 use Rattle.arguments.proofs.number.Statement.{statement}
 use Rattle.arguments.proofs.number.Tie as tie
 

@@ -1,7 +1,7 @@
 -- `board_lines::put_board` meets its contract: one text behind another.
 -- Assumes nothing.
 use borrow.Author.Needs.{needs}
-use Rattle.printing.proofs.Appending.{then}
+use Rattle.text.proofs.printing.Appending.{then}
 use native.Mathlib.Omega.{arith}
 use Rattle.board_lines.proofs.put_board.Statement.{statement}
 use Rattle.board_lines.proofs.put_board.Tie as tie

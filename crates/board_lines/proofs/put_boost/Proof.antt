@@ -1,7 +1,7 @@
 -- `board_lines::put_boost` meets its contract: the test is the definition's.
 -- Assumes nothing.
 use borrow.Author.Needs.{needs}
-use Rattle.printing.proofs.Appending.{nothing}
+use Rattle.text.proofs.printing.Appending.{nothing}
 use native.Mathlib.Omega.{arith}
 use Rattle.board_lines.proofs.put_boost.Statement.{statement}
 use Rattle.board_lines.proofs.put_boost.Tie as tie

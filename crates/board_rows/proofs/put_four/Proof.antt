@@ -1,7 +1,7 @@
 -- `board_rows::put_four` meets its contract: one field behind another.
 -- Assumes nothing.
 use borrow.Author.Needs.{needs}
-use Rattle.printing.proofs.Appending.{then}
+use Rattle.text.proofs.printing.Appending.{then}
 use native.Mathlib.Omega.{arith}
 use Rattle.board_rows.proofs.put_four.Statement.{statement}
 use Rattle.board_rows.proofs.put_four.Tie as tie

@@ -7,8 +7,8 @@ use Prim.Native.Nat.{ℕ, _-_, _≤_}
 use native.Mathlib.Omega.{arith}
 use lib.ListN.{length, drop, drop-of-length-le}
 use denote.Ref.{now}
-use Rattle.reading.specs.Fields.{fieldAt}
-use Rattle.reading.specs.Words.{alike}
+use Rattle.text.specs.Fields.{fieldAt}
+use Rattle.text.specs.Words.{alike}
 use Rattle.commands.specs.declared.Named.the-variants.{Known}
 use Rattle.commands.specs.Operations.{foundFrom, operations}
 use Rattle.commands.proofs.Listed.{this, not-this, all}

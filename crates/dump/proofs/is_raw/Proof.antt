@@ -3,8 +3,8 @@
 use borrow.Author.Needs.{needs}
 use borrow.Author.Tests.{not-true, not-false}
 use Rattle.dump.specs.Dump.{couldBeHex, isRaw}
-use Rattle.reading.proofs.Tests.{passes, fails}
-use Rattle.reading.specs.Words.{all}
+use Rattle.text.proofs.reading.Tests.{passes, fails}
+use Rattle.text.specs.Words.{all}
 use denote.Ref.{now}
 use lib.ListN.{length, drop, drop-of-length-le}
 use Prim.Native.Nat.{_-_, _≤_}

@@ -2,7 +2,7 @@
 -- Assumes nothing.
 use borrow.Author.Needs.{needs}
 use denote.Ref.{now}
-use Rattle.reading.proofs.Tests.{past}
+use Rattle.text.proofs.reading.Tests.{past}
 use mathlib.Core.Path.{sym}
 use Rattle.faults.proofs.byte_at.Statement.{statement}
 use Rattle.faults.proofs.byte_at.Tie as tie

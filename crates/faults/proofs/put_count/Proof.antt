@@ -1,7 +1,7 @@
 -- `faults::put_count` meets its contract: one text behind another.
 -- Assumes nothing.
 use borrow.Author.Needs.{needs}
-use Rattle.printing.proofs.Appending.{then}
+use Rattle.text.proofs.printing.Appending.{then}
 use native.Mathlib.Omega.{arith}
 use Rattle.faults.proofs.put_count.Statement.{statement}
 use Rattle.faults.proofs.put_count.Tie as tie

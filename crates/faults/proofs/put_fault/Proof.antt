@@ -1,12 +1,12 @@
 -- `faults::put_fault` meets its contract: each arm is the definition's case.
 -- Assumes nothing.
 use borrow.Author.Needs.{needs}
-use Rattle.printing.proofs.Appending.{then}
+use Rattle.text.proofs.printing.Appending.{then}
 use native.Mathlib.Omega.{arith}
 use mathlib.Core.Path.{_≡_}
 use denote.Ref.{now}
 use lib.ListN.{getD}
-use Rattle.printing.proofs.Appending.{nothing}
+use Rattle.text.proofs.printing.Appending.{nothing}
 use Rattle.faults.proofs.put_fault.Statement.{statement}
 use Rattle.faults.proofs.put_fault.Tie as tie
 

@@ -1,7 +1,7 @@
 -- `frequencies::hertz_of` meets its contract: the test is where the table ends.
 -- Assumes nothing.
 use borrow.Author.Needs.{needs}
-use Rattle.reading.proofs.Tests.{past}
+use Rattle.text.proofs.reading.Tests.{past}
 use Rattle.sheets.specs.Modem.{bandwidths}
 use mathlib.Core.Path.{sym}
 use Rattle.frequencies.proofs.hertz_of.Statement.{statement}

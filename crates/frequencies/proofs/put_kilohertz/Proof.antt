@@ -6,7 +6,7 @@ use mathlib.Core.List.{append-nil}
 use mathlib.Core.Path.{_≡_, sym}
 use Prim.Native.Nat.{_%_}
 use borrow.Author.Tests.{eq-eqb, ne-eqb}
-use Rattle.printing.proofs.Appending.{then, same}
+use Rattle.text.proofs.printing.Appending.{then, same}
 use native.Mathlib.Omega.{arith}
 use Rattle.frequencies.proofs.put_kilohertz.Statement.{statement}
 use Rattle.frequencies.proofs.put_kilohertz.Tie as tie

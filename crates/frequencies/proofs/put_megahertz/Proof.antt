@@ -2,7 +2,7 @@
 -- Assumes nothing.
 use borrow.Author.Needs.{needs}
 use Rattle.frequencies.specs.Frequencies.{megahertz}
-use Rattle.printing.proofs.Appending.{then}
+use Rattle.text.proofs.printing.Appending.{then}
 use native.Mathlib.Omega.{arith}
 use Rattle.frequencies.proofs.put_megahertz.Statement.{statement}
 use Rattle.frequencies.proofs.put_megahertz.Tie as tie

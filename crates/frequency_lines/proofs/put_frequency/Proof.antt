@@ -1,7 +1,7 @@
 -- `frequency_lines::put_frequency` meets its contract: one text behind another.
 -- Assumes nothing.
 use borrow.Author.Needs.{needs}
-use Rattle.printing.proofs.Appending.{then}
+use Rattle.text.proofs.printing.Appending.{then}
 use native.Mathlib.Omega.{arith}
 use Rattle.frequency_lines.proofs.put_frequency.Statement.{statement}
 use Rattle.frequency_lines.proofs.put_frequency.Tie as tie

@@ -1,7 +1,7 @@
 -- `frequency_lines::put_step` meets its contract: one text behind another, each byte of the count by its own contract.
 -- Assumes nothing.
 use borrow.Author.Needs.{needs}
-use Rattle.printing.proofs.Appending.{then}
+use Rattle.text.proofs.printing.Appending.{then}
 use native.Mathlib.Omega.{arith}
 use Rattle.frequency_lines.proofs.put_step.Statement.{statement}
 use Rattle.frequency_lines.proofs.put_step.Tie as tie

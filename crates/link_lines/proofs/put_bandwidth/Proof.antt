@@ -1,7 +1,7 @@
 -- `link_lines::put_bandwidth` meets its contract: one text behind another.
 -- Assumes nothing.
 use borrow.Author.Needs.{needs}
-use Rattle.printing.proofs.Appending.{then}
+use Rattle.text.proofs.printing.Appending.{then}
 use native.Mathlib.Omega.{arith}
 use Rattle.link_lines.proofs.put_bandwidth.Statement.{statement}
 use Rattle.link_lines.proofs.put_bandwidth.Tie as tie

@@ -9,7 +9,7 @@ use Prim.Native.Nat.{_<_}
 use mathlib.Core.Path.{ap}
 use mir.ValLaws.{toZ-ofZ}
 use mir.Syntax.{w32}
-use Rattle.printing.proofs.Appending.{then, same}
+use Rattle.text.proofs.printing.Appending.{then, same}
 use native.Mathlib.Omega.{arith}
 use Rattle.link_lines.proofs.put_link.Statement.{statement}
 use Rattle.link_lines.proofs.put_link.Tie as tie

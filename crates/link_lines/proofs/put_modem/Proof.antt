@@ -1,7 +1,7 @@
 -- `link_lines::put_modem` meets its contract: one line behind another.
 -- Assumes nothing.
 use borrow.Author.Needs.{needs}
-use Rattle.printing.proofs.Appending.{then}
+use Rattle.text.proofs.printing.Appending.{then}
 use native.Mathlib.Omega.{arith}
 use Rattle.link_lines.proofs.put_modem.Statement.{statement}
 use Rattle.link_lines.proofs.put_modem.Tie as tie

@@ -1,7 +1,7 @@
 -- `link_lines::put_sync` meets its contract: one line behind the other.
 -- Assumes nothing.
 use borrow.Author.Needs.{needs}
-use Rattle.printing.proofs.Appending.{then}
+use Rattle.text.proofs.printing.Appending.{then}
 use native.Mathlib.Omega.{arith}
 use Rattle.link_lines.proofs.put_sync.Statement.{statement}
 use Rattle.link_lines.proofs.put_sync.Tie as tie

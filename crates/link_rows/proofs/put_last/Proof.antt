@@ -2,10 +2,10 @@
 -- Assumes nothing.
 use borrow.Author.Needs.{needs}
 use mathlib.Core.Path.{ap}
-use Rattle.printing.specs.Numbers.{signed}
+use Rattle.text.specs.Numbers.{signed}
 use mir.ValLaws.{toZ-ofZ}
 use mir.Syntax.{w32}
-use Rattle.printing.proofs.Appending.{then, same}
+use Rattle.text.proofs.printing.Appending.{then, same}
 use native.Mathlib.Omega.{arith}
 use Rattle.link_rows.proofs.put_last.Statement.{statement}
 use Rattle.link_rows.proofs.put_last.Tie as tie

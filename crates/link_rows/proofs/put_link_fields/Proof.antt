@@ -8,7 +8,7 @@ use Prim.Native.Nat.{_<_}
 use mathlib.Core.Path.{ap}
 use mir.ValLaws.{toZ-ofZ}
 use mir.Syntax.{w32}
-use Rattle.printing.proofs.Appending.{then, same}
+use Rattle.text.proofs.printing.Appending.{then, same}
 use native.Mathlib.Omega.{arith}
 use Rattle.link_rows.proofs.put_link_fields.Statement.{statement}
 use Rattle.link_rows.proofs.put_link_fields.Tie as tie

@@ -3,8 +3,8 @@
 use borrow.Author.Needs.{needs}
 use Rattle.listing.proofs.Records.{record-more, none-left}
 use Rattle.listing.specs.Records.{recordsText}
-use Rattle.printing.proofs.Appending.{then, same, nothing}
-use Rattle.printing.specs.Text.{Appended}
+use Rattle.text.proofs.printing.Appending.{then, same, nothing}
+use Rattle.text.specs.Text.{Appended}
 use lib.ListN.{length, drop, length-drop}
 use denote.Ref.{now}
 use native.Mathlib.Omega.{arith}

@@ -1,7 +1,7 @@
 -- `names::put_name` meets its contract: the table has the name at the number.
 -- Assumes nothing.
 use borrow.Author.Needs.{needs}
-use Rattle.printing.proofs.Appending.{same}
+use Rattle.text.proofs.printing.Appending.{same}
 use Rattle.names.proofs.Table.{at-number, short}
 use Rattle.names.specs.Names.{nameOf}
 use lib.ListN.{length}

@@ -1,7 +1,7 @@
 -- `names::put_refused` meets its contract: one text behind the other.
 -- Assumes nothing.
 use borrow.Author.Needs.{needs}
-use Rattle.printing.proofs.Appending.{then}
+use Rattle.text.proofs.printing.Appending.{then}
 use native.Mathlib.Omega.{arith}
 use Rattle.names.proofs.put_refused.Statement.{statement}
 use Rattle.names.proofs.put_refused.Tie as tie

@@ -1,7 +1,7 @@
 -- `numerals::put_bytes` meets its contract: one text behind another.
 -- Assumes nothing.
 use borrow.Author.Needs.{needs}
-use Rattle.printing.proofs.Appending.{then}
+use Rattle.text.proofs.printing.Appending.{then}
 use Rattle.numerals.proofs.put_bytes.Statement.{statement}
 use Rattle.numerals.proofs.put_bytes.Tie as tie
 

@@ -1,7 +1,7 @@
 -- `numerals::put_counted` meets its contract: one text behind another.
 -- Assumes nothing.
 use borrow.Author.Needs.{needs}
-use Rattle.printing.proofs.Appending.{then}
+use Rattle.text.proofs.printing.Appending.{then}
 use native.Mathlib.Omega.{arith}
 use Rattle.numerals.proofs.put_counted.Statement.{statement}
 use Rattle.numerals.proofs.put_counted.Tie as tie

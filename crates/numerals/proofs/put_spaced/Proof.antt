@@ -1,7 +1,7 @@
 -- `numerals::put_spaced` meets its contract: one text behind the other.
 -- Assumes nothing.
 use borrow.Author.Needs.{needs}
-use Rattle.printing.proofs.Appending.{then}
+use Rattle.text.proofs.printing.Appending.{then}
 use Rattle.numerals.proofs.put_spaced.Statement.{statement}
 use Rattle.numerals.proofs.put_spaced.Tie as tie
 

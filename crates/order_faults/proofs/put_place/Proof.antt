@@ -1,7 +1,7 @@
 -- `order_faults::put_place` meets its contract: one text behind the other.
 -- Assumes nothing.
 use borrow.Author.Needs.{needs}
-use Rattle.printing.proofs.Appending.{then}
+use Rattle.text.proofs.printing.Appending.{then}
 use native.Mathlib.Omega.{arith}
 use Rattle.order_faults.proofs.put_place.Statement.{statement}
 use Rattle.order_faults.proofs.put_place.Tie as tie

@@ -1,7 +1,7 @@
 -- `order_faults::put_wrong` meets its contract: one text behind the other.
 -- Assumes nothing.
 use borrow.Author.Needs.{needs}
-use Rattle.printing.proofs.Appending.{then}
+use Rattle.text.proofs.printing.Appending.{then}
 use native.Mathlib.Omega.{arith}
 use Rattle.order_faults.proofs.put_wrong.Statement.{statement}
 use Rattle.order_faults.proofs.put_wrong.Tie as tie

@@ -1,7 +1,7 @@
 -- `outcomes::put_left` meets its contract: one text behind another.
 -- Assumes nothing.
 use borrow.Author.Needs.{needs}
-use Rattle.printing.proofs.Appending.{then}
+use Rattle.text.proofs.printing.Appending.{then}
 use Rattle.outcomes.proofs.put_left.Statement.{statement}
 use Rattle.outcomes.proofs.put_left.Tie as tie
 

@@ -3,7 +3,7 @@
 use borrow.Author.Needs.{needs}
 use native.Mathlib.Omega.{arith}
 use borrow.Author.Tests.{eq-eqb, ne-eqb}
-use Rattle.printing.proofs.Appending.{then}
+use Rattle.text.proofs.printing.Appending.{then}
 use Rattle.outcomes.proofs.put_lent.Statement.{statement}
 use Rattle.outcomes.proofs.put_lent.Tie as tie
 

@@ -4,7 +4,7 @@ use borrow.Author.Needs.{needs}
 use native.Mathlib.Omega.{arith}
 use mathlib.Core.List.{append-nil}
 use Prim.Native.Nat.{ℕ, _+_, _≤_}
-use Rattle.printing.proofs.Appending.{then}
+use Rattle.text.proofs.printing.Appending.{then}
 use Rattle.replies.proofs.Values.{none}
 use Rattle.replies.specs.Answers.{answerText}
 use Rattle.replies.proofs.put_refusal.Statement.{statement}

@@ -4,7 +4,7 @@ use borrow.Author.Needs.{needs}
 use native.Mathlib.Omega.{arith}
 use mir.Syntax.{w32}
 use mir.ValLaws.{toZ-ofZ}
-use Rattle.printing.proofs.Appending.{same, then}
+use Rattle.text.proofs.printing.Appending.{same, then}
 use Rattle.replies.proofs.Values.{one-value}
 use Rattle.replies.proofs.put_value.Statement.{statement}
 use Rattle.replies.proofs.put_value.Tie as tie

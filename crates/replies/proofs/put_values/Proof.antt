@@ -7,8 +7,8 @@ use Prim.Native.Nat.{ℕ, _+_, _*_, _-_, _≤_}
 use native.Mathlib.Omega.{arith}
 use denote.Ref.{now}
 use lib.ListN.{length, drop, drop-of-length-le}
-use Rattle.printing.specs.Text.{Appended}
-use Rattle.printing.proofs.Appending.{then, same, nothing}
+use Rattle.text.specs.Text.{Appended}
+use Rattle.text.proofs.printing.Appending.{then, same, nothing}
 use Rattle.replies.specs.Answers.{plain, valuesText}
 use Rattle.replies.proofs.Values.{value-more}
 use Rattle.replies.proofs.put_values.Statement.{statement}

@@ -3,7 +3,7 @@
 use borrow.Author.Needs.{needs}
 use native.Mathlib.Omega.{arith}
 use mathlib.Core.List.{[]}
-use Rattle.printing.proofs.Appending.{same}
+use Rattle.text.proofs.printing.Appending.{same}
 use Rattle.replies.proofs.Values.{well}
 use Rattle.reports.proofs.put_done.Statement.{statement}
 use Rattle.reports.proofs.put_done.Tie as tie

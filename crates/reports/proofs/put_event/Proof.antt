@@ -2,7 +2,7 @@
 -- Assumes nothing.
 use borrow.Author.Needs.{needs}
 use native.Mathlib.Omega.{arith}
-use Rattle.printing.specs.Numbers.{decimal}
+use Rattle.text.specs.Numbers.{decimal}
 use Rattle.replies.specs.Answers.{answerText}
 use Rattle.reports.proofs.put_event.Statement.{statement}
 use Rattle.reports.proofs.put_event.Tie as tie

@@ -1,7 +1,7 @@
 -- `request_faults::put_fault` meets its contract: one text behind another.
 -- Assumes nothing.
 use borrow.Author.Needs.{needs}
-use Rattle.printing.proofs.Appending.{then}
+use Rattle.text.proofs.printing.Appending.{then}
 use Rattle.request_faults.proofs.put_fault.Statement.{statement}
 use Rattle.request_faults.proofs.put_fault.Tie as tie
 

@@ -2,7 +2,7 @@
 -- Assumes nothing.
 use borrow.Author.Needs.{needs}
 use native.Mathlib.Omega.{arith}
-use Rattle.printing.proofs.Appending.{then}
+use Rattle.text.proofs.printing.Appending.{then}
 use Rattle.request_faults.proofs.put_numbered.Statement.{statement}
 use Rattle.request_faults.proofs.put_numbered.Tie as tie
 

@@ -6,7 +6,7 @@ use mathlib.Core.Path.{_≡_, ap}
 use denote.Ref.{now}
 use lib.ListN.{length}
 use Rattle.commands.specs.Operations.{arguments}
-use Rattle.printing.proofs.Appending.{same, then}
+use Rattle.text.proofs.printing.Appending.{same, then}
 use Rattle.request_faults.proofs.Table.{at-row, short}
 use Rattle.request_faults.proofs.put_wanted.Statement.{statement}
 use Rattle.request_faults.proofs.put_wanted.Tie as tie

@@ -6,7 +6,7 @@ use Prim.Native.Nat.{ℕ, _+_, _≤_}
 use native.Mathlib.Omega.{arith}
 use lib.Dec.{T, leb, leb→le}
 use lib.ListN.{length}
-use Rattle.printing.specs.Text.{Appended}
+use Rattle.text.specs.Text.{Appended}
 use Rattle.request_faults.proofs.put_words.Statement.{statement}
 use Rattle.request_faults.proofs.put_words.Tie as tie
 

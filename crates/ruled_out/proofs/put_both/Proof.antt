@@ -1,7 +1,7 @@
 -- `ruled_out::put_both` meets its contract: one text behind another.
 -- Assumes nothing.
 use borrow.Author.Needs.{needs}
-use Rattle.printing.proofs.Appending.{then}
+use Rattle.text.proofs.printing.Appending.{then}
 use native.Mathlib.Omega.{arith}
 use Rattle.ruled_out.proofs.put_both.Statement.{statement}
 use Rattle.ruled_out.proofs.put_both.Tie as tie

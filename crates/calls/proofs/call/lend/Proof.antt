@@ -6,7 +6,7 @@ use Prim.Native.Nat.{_≤_}
 use native.Mathlib.Omega.{arith}
 use lib.ListN.{length}
 use lib.Seq.{length-take-le}
-use Rattle.hex.proofs.Pairs.{roomy}
+use Rattle.text.proofs.hex.Pairs.{roomy}
 use Rattle.calls.proofs.call.lend.Statement.{statement}
 use Rattle.calls.proofs.call.lend.Tie as tie
 

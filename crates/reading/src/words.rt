@@ -1,9 +1,0 @@
-// Words: whether a text is one.
-ghost use mathlib.Core.Path.{_≡_};
-ghost use Rattle.reading.specs.Words.{alike};
-
-pub fn same(a: &[u8], b: &[u8]) -> bool
-    ensures { λ r. ⌜ r ≡ alike (now (a .entry)) (now (b .entry)) ⌝ }
-{
-    check::same(a, b)
-}
