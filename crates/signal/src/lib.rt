@@ -1,10 +1,13 @@
-// A received packet's signal, in whole dB and dBm, from the bytes that the radio reports.
+// SNR and RSSI of a packet: the slope of the RSSI's line, its offset, and both together.
 ghost use mathlib.Core.Path.{_≡_};
 ghost use lib.IntN.{pos, negsuc};
 ghost use lib.Signed.{_≤ℤ_};
 ghost use Rattle.sheets.specs.Signal.{snr, rssi};
+use crate::scaling::scaled;
 use params::mod_params::PacketStatus;
-use scaling::scaled;
+
+pub mod offsets;
+pub mod scaling;
 
 // RegPktSnrValue counts quarter dB; the quotient goes toward zero, so that 0xfd to 0xff are 0.
 pub fn snr(raw: u8) -> i16

@@ -18,6 +18,7 @@ use params::mod_params::Verdict;
 use records::status_records;
 use registers::radio_kind_params::Register;
 use sheets::Variant;
+use signal::offsets;
 use units::Steps;
 
 fn read_frf(image: &[u8], log: &mut [u8], at: usize) -> Steps

@@ -1,4 +1,4 @@
--- `scaling::scaled` meets its contract: what the truncation asks of the quotient, and what it gives, is computed at each byte.
+-- `signal::scaling::scaled` meets its contract: what the truncation asks of the quotient, and what it gives, is computed at each byte.
 -- Assumes nothing.
 use borrow.Author.Needs.{needs}
 use native.Mathlib.Omega.{arith}
@@ -11,8 +11,8 @@ use lib.Ieee.{Float, fin, binary32, ofInt, ofBits, mul, div, lt, toUnsigned}
 use mir.Syntax.{w16}
 use mir.ValLaws.{toZ-pos}
 use Rattle.sheets.proofs.Sweep.{at, equal}
-use Rattle.scaling.proofs.scaled.Statement.{statement}
-use Rattle.scaling.proofs.scaled.Tie as tie
+use Rattle.signal.proofs.scaling.scaled.Statement.{statement}
+use Rattle.signal.proofs.scaling.scaled.Tie as tie
 
 -- p * 16.0 / 15.0, as MIR has it, with each constant by its bit pattern
 abbrev x : ℕ → Float

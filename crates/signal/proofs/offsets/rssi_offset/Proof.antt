@@ -1,4 +1,4 @@
--- `offsets::rssi_offset` meets its contract: each arm is the definition's case, and the read-back decides the SX1276's.
+-- `signal::offsets::rssi_offset` meets its contract: each arm is the definition's case, and the read-back decides the SX1276's.
 -- Assumes nothing.
 use borrow.Author.Needs.{needs}
 use borrow.Author.Tests.{lt-ltb, le-ltb}
@@ -10,8 +10,8 @@ use Rattle.sheets.specs.declared.Variant.{Variant}
 use Rattle.sheets.specs.declared.Variant.the-variants.{Sx1276}
 use Rattle.sheets.specs.Frequency.{readBack}
 use Rattle.sheets.specs.Signal.{midBandThreshold, offset}
-use Rattle.offsets.proofs.rssi_offset.Statement.{statement}
-use Rattle.offsets.proofs.rssi_offset.Tie as tie
+use Rattle.signal.proofs.offsets.rssi_offset.Statement.{statement}
+use Rattle.signal.proofs.offsets.rssi_offset.Tie as tie
 
 high-port : (v : Variant) (n : ℕ) → v ≡ Sx1276 → midBandThreshold < readBack n → offset v n ≡ negsuc 156
 unfolding offset
