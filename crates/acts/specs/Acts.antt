@@ -3,7 +3,7 @@ use mathlib.Core.List.{List, []}
 use Prim.Native.Nat.{ℕ}
 use Rattle.sheets.specs.declared.Variant.{Variant}
 use Rattle.params.specs.Errors.{Told}
-use Rattle.registers.specs.declared.board.Board.{Board}
+use Rattle.params.specs.declared.board.Board.{Board}
 use Rattle.admit.specs.Call.{Outcome, well}
 use Rattle.operations.specs.Setup.{initLora, setBases, setChannel}
 use Rattle.operations.specs.Modes.{reset, setStandby, setSleep, doTx, doCad, doRx, setCarrier}

@@ -11,7 +11,7 @@ use arguments::byte;
 use arguments::hertz;
 use commands::Operation;
 use params::answers::Answer;
-use registers::board::Board;
+use params::board::Board;
 use sx127x::init_lora;
 use sx127x::set_channel;
 use sx127x::set_modulation_params;

@@ -14,7 +14,7 @@ use arguments::power;
 use arguments::word;
 use params::answers::Answer;
 use params::answers::IrqAnswer;
-use registers::board::Board;
+use params::board::Board;
 
 pub(crate) fn set_bases(
     args: &[u8],

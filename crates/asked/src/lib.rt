@@ -8,7 +8,7 @@ use arguments::word;
 use params::mod_params::Link;
 use params::mod_params::ModulationParams;
 use params::mod_params::PacketParams;
-use units::Hertz;
+use params::units::Hertz;
 
 // No argument says a frequency: the call that takes the record does not look at it.
 pub fn modulation(args: &[u8], parting: u8) -> ModulationParams

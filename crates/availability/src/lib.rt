@@ -3,9 +3,9 @@ ghost use mathlib.Core.Path.{_≡_};
 ghost use Rattle.refusals.specs.Refusals.{spreadingFactorValue, bandwidthValue, frequencyRange};
 use params::mod_params::RadioError;
 use params::mod_params::Verdict;
+use params::units::Hertz;
 use sheets::NO_CODE;
 use sheets::Variant;
-use units::Hertz;
 
 // 14: spreading factor 5, which no SX127x has.
 pub fn spreading_factor_value(code: u8) -> Verdict

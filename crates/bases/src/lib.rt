@@ -11,7 +11,7 @@ use admit::admit;
 use bus::write_register;
 use params::answers::Answer;
 use params::mod_params::Verdict;
-use registers::radio_kind_params::Register;
+use params::radio_kind_params::Register;
 
 // Both bases are 0, whatever was asked.
 pub fn write_bases(image: &mut [u8], log: &mut [u8], at: usize) -> usize

@@ -3,12 +3,12 @@ ghost use Prim.Native.Nat.{_≤_};
 use params::answers::Answer;
 use params::answers::LinkAnswer;
 use params::answers::StatusAnswer;
+use params::board::Board;
 use params::mod_params::Link;
 use params::mod_params::PacketStatus;
-use registers::board::Board;
+use params::units::Hertz;
+use params::units::Steps;
 use sheets::Variant;
-use units::Hertz;
-use units::Steps;
 
 fn board(variant: Variant, tx_boost: bool) -> Board {
     Board {

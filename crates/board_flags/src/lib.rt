@@ -1,7 +1,7 @@
 // A board from its flags: 1 the SX1276, 2 TCXO, 4 tx_boost, 8 rx_boost.
 ghost use mathlib.Core.Path.{_≡_};
 ghost use Rattle.board_flags.specs.Boards.{variantOf, boardOf};
-use registers::board::Board;
+use params::board::Board;
 use sheets::Variant;
 
 fn variant(is_sx1276: bool) -> Variant

@@ -5,7 +5,7 @@ ghost use lib.ListN.{length};
 ghost use Rattle.text.specs.Text.{Appended};
 ghost use Rattle.board_rows.specs.Fields.{field, fourFields, chip as chipOf, bit as bitOf, boardFields};
 use numerals::put_counted;
-use registers::board::Board;
+use params::board::Board;
 use sheets::Variant;
 
 pub fn put_field(n: u64, out: &mut [u8], at: usize) -> usize

@@ -4,7 +4,7 @@ ghost use Rattle.boards.specs.Boards.{board, plain as plainBoard, worded
 ghost use Rattle.board_words.specs.Words.{wordOf};
 use board_words::Word;
 use board_words::board_word;
-use registers::board::Board;
+use params::board::Board;
 use sheets::Variant;
 
 pub enum Worded {

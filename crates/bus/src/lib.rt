@@ -3,10 +3,10 @@ ghost use mathlib.Core.Path.{_≡_};
 ghost use mathlib.Core.List.{[], _∷_};
 ghost use Prim.Native.Nat.{_+_, _≤_};
 ghost use lib.ListN.{length, getD};
-ghost use Rattle.registers.specs.Addresses.{address};
+ghost use Rattle.params.specs.Addresses.{address};
 ghost use Rattle.log.specs.Steps.{Done, Read, Write, Modify, SleepWrite};
 use log::append;
-use registers::radio_kind_params::Register;
+use params::radio_kind_params::Register;
 use writes::write_kind;
 
 // What the register holds; the next record goes three bytes on.

@@ -8,7 +8,7 @@ use arguments::count;
 use commands::Named;
 use commands::Operation;
 use commands::operation_named;
-use registers::board::Board;
+use params::board::Board;
 use requests::Flaw;
 use sheets::Variant;
 use text::hex;

@@ -11,8 +11,8 @@ use admit::admit;
 use bus::write_register;
 use params::answers::Answer;
 use params::mod_params::Verdict;
-use registers::radio_kind_params::Register;
-use units::Hertz;
+use params::radio_kind_params::Register;
+use params::units::Hertz;
 
 pub fn write_channel(image: &mut [u8], log: &mut [u8], at: usize, frequency: Hertz) -> usize
     requires { ⌜ (at + 9 ≤ length (now log)) × (length (now image) ≡ 128) ⌝ }

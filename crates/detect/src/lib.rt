@@ -12,10 +12,10 @@ use admit::admit;
 use bus::write_register;
 use params::answers::Answer;
 use params::mod_params::Verdict;
+use params::radio_kind_params::Register;
+use params::values::LnaGain;
+use params::values::LoRaMode;
 use pins::enable_rf_switch_rx;
-use registers::radio_kind_params::Register;
-use values::LnaGain;
-use values::LoRaMode;
 
 pub fn lna_gain(rx_boost: bool) -> u8
     ensures { λ r. ⌜ r ≡ lna «rx_boost» ⌝ }

@@ -7,7 +7,7 @@ ghost use Rattle.log.specs.Steps.{Done};
 ghost use Rattle.operations.specs.Modem.{detection};
 use bus::modify_register;
 use bus::write_register;
-use registers::radio_kind_params::Register;
+use params::radio_kind_params::Register;
 
 // RegDetectionOptimize: spreading factor 6 wants its own value, and so does the threshold.
 fn detection_optimize(spreading_factor: u8) -> u8

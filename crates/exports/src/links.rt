@@ -8,9 +8,9 @@ ghost use Rattle.telling.specs.Exports.{Exported};
 ghost use Rattle.exports.specs.Records.{linkOf};
 use board_flags::board_of;
 use params::mod_params::Link;
+use params::units::Hertz;
 use telling::answers::done;
 use telling::answers::link;
-use units::Hertz;
 
 // A link of ten numbers.
 #[no_mangle]

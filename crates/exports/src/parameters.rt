@@ -8,10 +8,10 @@ ghost use Rattle.exports.specs.Records.{modulationOf, packetOf};
 use board_flags::board_of;
 use params::mod_params::ModulationParams;
 use params::mod_params::PacketParams;
+use params::units::Hertz;
 use telling::answers::done;
 use telling::answers::modulation;
 use telling::answers::packet;
-use units::Hertz;
 
 // Values: spreading factor, bandwidth, coding rate, optimize, hertz.
 #[no_mangle]

@@ -1,7 +1,7 @@
 // Prints the bench's frequencies as the proved code works them out. The starred figures themselves are proved: proofs/Table.antt.
 use libc::STDOUT_FILENO;
-use units::Hertz;
-use units::Steps;
+use params::units::Hertz;
+use params::units::Steps;
 
 fn text(t: &[u8]) {
     io::write_all(STDOUT_FILENO, t);

@@ -14,8 +14,8 @@ use inversion::write_inversion;
 use params::answers::Answer;
 use params::mod_params::PacketParams;
 use params::mod_params::Verdict;
+use params::radio_kind_params::Register;
 use records::packet_records;
-use registers::radio_kind_params::Register;
 use sheets::Variant;
 
 fn write_preamble(image: &mut [u8], log: &mut [u8], at: usize, preamble_length: u16) -> usize

@@ -7,8 +7,8 @@ ghost use Rattle.frequency_lines.specs.Lines.{stepText, frequencyLine};
 use frequencies::put_megahertz;
 use numerals::put_bytes;
 use numerals::put_counted;
+use params::units::Hertz;
 use text::printing::put;
-use units::Hertz;
 
 fn put_step(hz: Hertz, out: &mut [u8], at: usize) -> usize
     requires { ⌜ at + 70 ≤ length (now out) ⌝ }

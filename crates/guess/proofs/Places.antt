@@ -11,7 +11,7 @@ use borrow.Author.Tests.{eqb-true}
 use Rattle.sheets.specs.declared.Variant.{Variant}
 use Rattle.sheets.specs.declared.Variant.the-variants.{Sx1272, Sx1276}
 use Rattle.params.specs.declared.mod_params.Link.{Link}
-use Rattle.registers.specs.declared.board.Board.{Board}
+use Rattle.params.specs.declared.board.Board.{Board}
 use Rattle.page.specs.Page.{Place, improved, find, pick}
 use Rattle.lora_page.specs.Lora as L
 use Rattle.lora_page.specs.Lora.{places, placesOf}

@@ -3,12 +3,12 @@ ghost use mathlib.Core.Path.{_≡_};
 ghost use Prim.Native.Nat.{_<_, _^_};
 ghost use Rattle.page.specs.Page.{improved, find};
 ghost use Rattle.lora_page.specs.Lora.{tuned, powered, announced, shaped, frf-msb, frf-mid, frf-lsb, pa-config, pa-dac, config-1, config-2, invert-iq, sync-word, placesOf};
+use params::board::Board;
 use params::mod_params::Link;
-use registers::board::Board;
+use params::units::Steps;
 use sheets::Variant;
 use shown::power_shown;
 use shown::power_shown_with;
-use units::Steps;
 
 // At 125 kHz every frequency is accepted.
 fn tuned(guess: Link, count: Steps) -> Link

@@ -6,7 +6,7 @@ ghost use Rattle.sheets.specs.Modem.{invertIq, invertIq2};
 ghost use Rattle.log.specs.Steps.{Done};
 ghost use Rattle.operations.specs.Modem.{inversion};
 use bus::write_register;
-use registers::radio_kind_params::Register;
+use params::radio_kind_params::Register;
 
 fn invert_iq(iq_inverted: u8) -> u8
     ensures { λ r. ⌜ r ≡ invertIq «iq_inverted» ⌝ }

@@ -21,7 +21,7 @@ use mode_codes::radio_mode;
 use params::answers::Answer;
 use params::mod_params::RadioMode;
 use params::mod_params::Verdict;
-use registers::radio_kind_params::Register;
+use params::radio_kind_params::Register;
 
 fn write_irq_params(image: &mut [u8], log: &mut [u8], at: usize, mode: RadioMode) -> usize
     requires { ⌜ (at + 12 ≤ length (now log)) × (length (now image) ≡ 128) ⌝ }

@@ -8,7 +8,7 @@ use Rattle.sheets.proofs.Sweep.{both}
 use Rattle.params.specs.declared.mod_params.Link.{Link}
 use Rattle.params.specs.declared.mod_params.Verdict.{Verdict}
 use Rattle.params.specs.declared.mod_params.Verdict.the-variants.{Clear, Refused}
-use Rattle.registers.specs.declared.board.Board.{Board}
+use Rattle.params.specs.declared.board.Board.{Board}
 use Rattle.refusals.specs.Refusals.{linkRefusal}
 use Rattle.log.specs.Steps.{endAfter}
 use Rattle.admit.specs.Call.{admitted, settled, well}

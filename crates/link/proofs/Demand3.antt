@@ -13,7 +13,7 @@ use Rattle.params.specs.declared.mod_params.Link.{Link}
 use Rattle.params.specs.declared.mod_params.RadioError.the-variants.{NotALink}
 use Rattle.params.specs.Errors.{Told, told, refusal}
 use Rattle.params.specs.Answers.{linkValues}
-use Rattle.registers.specs.declared.board.Board.{Board}
+use Rattle.params.specs.declared.board.Board.{Board}
 use Rattle.page.specs.Page.{Image, Reading, Reading.found, Reading.notASetting, program, read}
 use Rattle.page.proofs.Demand3 as general
 use Rattle.lora_page.specs.Links.{Accepted, plain}

@@ -3,7 +3,7 @@ use mathlib.Core.Path.{_≡_}
 use Rattle.sheets.specs.Frequency.{steps}
 use Rattle.sheets.specs.Power.{clamped}
 use Rattle.params.specs.declared.mod_params.Link.{Link}
-use Rattle.registers.specs.declared.board.Board.{Board}
+use Rattle.params.specs.declared.board.Board.{Board}
 
 -- One link: the same but for the frequency within a step and the power beyond the clamp.
 pub record OneLink (b : Board) (s t : Link) : Type 0 where

@@ -2,7 +2,7 @@
 use mathlib.Core.List.{List}
 use Prim.Native.Nat.{ℕ}
 use Rattle.params.specs.declared.mod_params.Link.{Link}
-use Rattle.registers.specs.declared.board.Board.{Board}
+use Rattle.params.specs.declared.board.Board.{Board}
 use Rattle.log.specs.Steps.{imageAfter}
 use Rattle.operations.specs.Programming.{programming}
 

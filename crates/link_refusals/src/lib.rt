@@ -3,7 +3,7 @@ ghost use mathlib.Core.Path.{_≡_};
 ghost use Rattle.refusals.specs.Refusals.{bandwidthForFrequency, headerForSpreadingFactor};
 use params::mod_params::RadioError;
 use params::mod_params::Verdict;
-use units::Hertz;
+use params::units::Hertz;
 
 // 16: 250 or 500 kHz in the lowest band.
 pub fn bandwidth_for_frequency(code: u8, frequency: Hertz) -> Verdict

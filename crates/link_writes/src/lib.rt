@@ -12,12 +12,12 @@ use channel::write_channel;
 use framing::write_packet;
 use judgements::low_data_rate_optimize;
 use modulation::write_modulation;
+use params::board::Board;
 use params::mod_params::Link;
 use params::mod_params::ModulationParams;
 use params::mod_params::PacketParams;
 use params::mod_params::Verdict;
 use power::write_power;
-use registers::board::Board;
 use setup::write_init;
 
 fn write_framed(image: &mut [u8], log: &mut [u8], at: usize, board: Board, link: Link) -> usize

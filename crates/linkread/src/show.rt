@@ -7,9 +7,9 @@ use board_lines::Oscillator;
 use libc::STDOUT_FILENO;
 use link::read_link;
 use params::answers::LinkAnswer;
+use params::board::Board;
 use params::mod_params::Link;
 use reader::last_examined;
-use registers::board::Board;
 use sheets::Variant;
 
 // What cannot be written is told, so that a table that was cut short is not taken for a whole one.

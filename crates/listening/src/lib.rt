@@ -7,7 +7,7 @@ ghost use Rattle.operations.specs.Modes.{waiting, listening};
 use bus::modify_register;
 use bus::write_register;
 use detect::lna_gain;
-use registers::radio_kind_params::Register;
+use params::radio_kind_params::Register;
 
 // The Rust's `set_lora_symbol_num_timeout`: how many symbols a receive waits for a preamble.
 pub fn write_window(image: &mut [u8], log: &mut [u8], at: usize, symbol_num: u16) -> usize

@@ -17,7 +17,7 @@ use Rattle.sheets.proofs.Sweep.{equal, equal₂}
 use Rattle.sheets.proofs.Frequency.{steps-lowest, lowest-lt, steps-fit}
 use Rattle.sheets.proofs.Modem.{optimize-le, code-76, code-72}
 use Rattle.params.specs.declared.mod_params.Link.{Link}
-use Rattle.registers.specs.declared.board.Board.{Board}
+use Rattle.params.specs.declared.board.Board.{Board}
 use Rattle.page.specs.Page.{Place, Lawful, Learns, Agree, Clear, apart, canonical, told}
 use Rattle.lora_page.specs.Links.{link, accepted, plain}
 use Rattle.lora_page.specs.Lora as L

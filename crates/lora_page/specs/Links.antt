@@ -9,7 +9,7 @@ use Rattle.sheets.specs.Power.{clamped}
 use Rattle.params.specs.declared.mod_params.Link.{Link}
 use Rattle.params.specs.declared.mod_params.Verdict.{Verdict}
 use Rattle.params.specs.declared.mod_params.Verdict.the-variants.{Clear, Refused}
-use Rattle.registers.specs.declared.board.Board.{Board}
+use Rattle.params.specs.declared.board.Board.{Board}
 use Rattle.refusals.specs.Refusals.{linkRefusal}
 
 abbrev pub link : (public sf bw cr hz preamble implicit crc iq : ℕ) → ℤ → Link

@@ -13,7 +13,7 @@ use Rattle.sheets.specs.Modem.{bandwidthCode, optimize, detectionKeeps, detecti
 use Rattle.sheets.specs.Power.{paConfig, paDac, ocp, paRamp}
 use Rattle.sheets.specs.Signal.{signed}
 use Rattle.params.specs.declared.mod_params.Link.{Link}
-use Rattle.registers.specs.declared.board.Board.{Board}
+use Rattle.params.specs.declared.board.Board.{Board}
 use Rattle.page.specs.Page.{Place, Page}
 use Rattle.lora_page.specs.Links.{link, accepted}
 

@@ -8,7 +8,7 @@ use Rattle.params.specs.declared.mod_params.Link.{Link}
 use Rattle.params.specs.declared.mod_params.RadioError.the-variants.{BadImage, NotALink}
 use Rattle.params.specs.Errors.{Told, told, refusal}
 use Rattle.params.specs.Answers.{linkValues}
-use Rattle.registers.specs.declared.board.Board.{Board}
+use Rattle.params.specs.declared.board.Board.{Board}
 use Rattle.page.specs.Page.{Reading, Reading.found, Reading.notASetting, read}
 use Rattle.lora_page.specs.Lora.{page}
 

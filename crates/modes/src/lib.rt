@@ -11,10 +11,10 @@ use admit::admit;
 use bus::write_register;
 use params::answers::Answer;
 use params::mod_params::Verdict;
+use params::radio_kind_params::Register;
+use params::values::LoRaMode;
 use pins::disable_rf_switch;
 use pins::enable_rf_switch_tx;
-use registers::radio_kind_params::Register;
-use values::LoRaMode;
 
 fn write_standby(image: &mut [u8], log: &mut [u8], at: usize) -> usize
     requires { ⌜ (at + 6 ≤ length (now log)) × (length (now image) ≡ 128) ⌝ }

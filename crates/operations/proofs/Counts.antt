@@ -11,7 +11,7 @@ use Rattle.sheets.specs.declared.Variant.the-variants.{Sx1272, Sx1276}
 use Rattle.sheets.specs.Interrupts.{Activity}
 use Rattle.sheets.specs.Modem.{optimize}
 use Rattle.params.specs.declared.mod_params.Link.{Link}
-use Rattle.registers.specs.declared.board.Board.{Board}
+use Rattle.params.specs.declared.board.Board.{Board}
 use Rattle.log.specs.Steps.{Makes, Quiet}
 use Rattle.log.proofs.Runs.{makes-then}
 use Rattle.operations.specs.Setup.{oscillator, network, bases, initialization, channel}

@@ -15,7 +15,7 @@ use Rattle.params.specs.declared.mod_params.Link.{Link}
 use Rattle.params.specs.declared.mod_params.Verdict.{Verdict}
 use Rattle.params.specs.declared.mod_params.Verdict.the-variants.{Clear}
 use Rattle.params.specs.Errors.{or}
-use Rattle.registers.specs.declared.board.Board.{Board}
+use Rattle.params.specs.declared.board.Board.{Board}
 use Rattle.mode_codes.specs.declared.RxModeCode.{RxModeCode}
 use Rattle.mode_codes.specs.declared.ModeCode.{ModeCode}
 use Rattle.refusals.specs.Refusals.{flag, baseAddresses, carrier, linkRefusal}

@@ -7,7 +7,7 @@ use Rattle.sheets.specs.declared.Variant.{Variant}
 use Rattle.sheets.specs.declared.Variant.the-variants.{Sx1272, Sx1276}
 use Rattle.sheets.specs.Registers.{RegPaConfig, RegPaRamp, RegOcp, RegPaDac}
 use Rattle.sheets.specs.Power.{paConfig, paDac, ocp, paRamp}
-use Rattle.registers.specs.declared.board.Board.{Board}
+use Rattle.params.specs.declared.board.Board.{Board}
 use Rattle.refusals.specs.Refusals.{flag}
 use Rattle.log.specs.Steps.{Step, Write}
 use Rattle.admit.specs.Call.{Outcome, call, well}

@@ -3,7 +3,7 @@ use mathlib.Core.List.{List, _++_}
 use Prim.Native.Nat.{ℕ}
 use Rattle.sheets.specs.Modem.{optimize}
 use Rattle.params.specs.declared.mod_params.Link.{Link}
-use Rattle.registers.specs.declared.board.Board.{Board}
+use Rattle.params.specs.declared.board.Board.{Board}
 use Rattle.refusals.specs.Refusals.{linkRefusal}
 use Rattle.log.specs.Steps.{Step}
 use Rattle.admit.specs.Call.{Outcome, call, well}

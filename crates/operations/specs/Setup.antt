@@ -8,7 +8,7 @@ use Rattle.sheets.specs.Registers.{RegTcxo, TcxoInputOn, RegSyncWord, RegFifoTx
 use Rattle.sheets.specs.Frequency.{steps, frfMsb, frfMid, frfLsb}
 use Rattle.sheets.specs.Modem.{syncWord}
 use Rattle.params.specs.declared.mod_params.Verdict.the-variants.{Clear}
-use Rattle.registers.specs.declared.board.Board.{Board}
+use Rattle.params.specs.declared.board.Board.{Board}
 use Rattle.refusals.specs.Refusals.{flag, baseAddresses}
 use Rattle.log.specs.Steps.{Step, Write}
 use Rattle.admit.specs.Call.{Outcome, call, well}

@@ -4,8 +4,8 @@ ghost use Rattle.sheets.specs.Interrupts.{Activity.transmitting, Activity.recei
 ghost use Rattle.params.specs.Answers.{tellsIrq, usedIrq};
 ghost use Rattle.mode_codes.specs.Modes.{activity};
 ghost use Rattle.operations.specs.Interrupts.{eventTold};
-use irq_masks::IrqMask;
 use params::answers::IrqAnswer;
+use params::irq_masks::IrqMask;
 use params::mod_params::RadioError;
 use params::mod_params::RadioMode;
 

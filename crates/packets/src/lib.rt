@@ -14,7 +14,7 @@ use fifo::read_buffer;
 use params::answers::PayloadAnswer;
 use params::mod_params::RadioError;
 use params::mod_params::Verdict;
-use registers::radio_kind_params::Register;
+use params::radio_kind_params::Register;
 
 // What follows the read of the packet's length; the FIFO is left pointing at its start.
 fn unload(

@@ -11,8 +11,8 @@ use params::answers::PacketAnswer;
 use params::mod_params::ModulationParams;
 use params::mod_params::PacketParams;
 use params::mod_params::Verdict;
+use params::units::Hertz;
 use sheets::Variant;
-use units::Hertz;
 
 pub fn create_modulation_params(
     variant: Variant,

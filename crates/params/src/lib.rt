@@ -1,3 +1,8 @@
-// The driver's errors, modes and parameters, and what its calls answer.
+// Names and numbers: errors, parameters and answers, registers and their values, boards, hertz and synthesizer steps.
 pub mod answers;
+pub mod board;
+pub mod irq_masks;
 pub mod mod_params;
+pub mod radio_kind_params;
+pub mod units;
+pub mod values;

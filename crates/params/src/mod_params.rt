@@ -1,7 +1,7 @@
 // Errors, verdicts, modes and parameters: what the Rust's mod_params.rs declares, with our refusals after its errors.
 ghost use mathlib.Core.Path.{_≡_};
 ghost use Rattle.params.specs.Errors.{numberOf, or};
-use units::Hertz;
+use crate::units::Hertz;
 
 // In the Rust's order; from FrequencyOutOfRange on they are ours.
 pub enum RadioError {

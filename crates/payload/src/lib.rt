@@ -11,7 +11,7 @@ use bus::write_register;
 use fifo::write_buffer;
 use params::answers::Answer;
 use params::mod_params::Verdict;
-use registers::radio_kind_params::Register;
+use params::radio_kind_params::Register;
 
 fn write_payload(
     image: &mut [u8],

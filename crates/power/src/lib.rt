@@ -11,11 +11,11 @@ ghost use Rattle.operations.proofs.Counts.{powerRecords};
 use admit::admit;
 use bus::write_register;
 use params::answers::Answer;
+use params::board::Board;
 use params::mod_params::Verdict;
+use params::radio_kind_params::Register;
 use ramps::ramp_value;
 use records::power_records;
-use registers::board::Board;
-use registers::radio_kind_params::Register;
 use sheets::Variant;
 
 fn set_tx_power(

@@ -7,10 +7,10 @@ use acceptance::link_refusal;
 use admit::admit;
 use link_writes::write_link;
 use params::answers::Answer;
+use params::board::Board;
 use params::mod_params::Link;
 use params::mod_params::Verdict;
 use records::program_records;
-use registers::board::Board;
 
 pub fn program(image: &mut [u8], log: &mut [u8], used: usize, board: Board, link: Link) -> Answer
     ensures { λ r. ⌜ Meets (programLink board link (now (image .entry)) (now (log .entry)) used) (tellsDone r) (usedDone r) (now (image .exit)) [] (now (log .exit)) [] ⌝ }

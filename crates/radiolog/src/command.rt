@@ -6,7 +6,7 @@ use bytes::scan::find;
 use commands::Named;
 use commands::Operation;
 use params::answers::Answer;
-use registers::board::Board;
+use params::board::Board;
 use shorthand::command_named;
 use text::hex;
 use text::hex::Bytes;

@@ -9,7 +9,7 @@ use libc::STDOUT_FILENO;
 use order_faults::put_wrong;
 use orders::Flaw;
 use orders::judged;
-use registers::board::Board;
+use params::board::Board;
 
 fn write(text: &[u8]) -> bool {
     let written = io::write_all(STDOUT_FILENO, text);

@@ -7,7 +7,7 @@ use board_words::Word;
 use boards::Worded;
 use libc::STDERR_FILENO;
 use libc::STDOUT_FILENO;
-use registers::board::Board;
+use params::board::Board;
 use text::reading::same;
 
 // The board that the words so far make, and whether one of them named its chip.

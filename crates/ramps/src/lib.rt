@@ -1,10 +1,10 @@
 // The time in which the amplifier comes up, and RegPaRamp for it.
 ghost use mathlib.Core.Path.{_≡_};
 ghost use Rattle.sheets.specs.Power.{paRamp};
-ghost use Rattle.values.specs.Values as value;
+ghost use Rattle.params.specs.Values as value;
 ghost use Rattle.operations.specs.Power.{rampCode};
+use params::values::RampTime;
 use sheets::Variant;
-use values::RampTime;
 use variants::ramp_bit;
 
 // Fast before a transmission, slow when a link is programmed.

@@ -9,7 +9,7 @@ use lib.ListN.{length}
 use Rattle.sheets.specs.declared.Variant.{Variant}
 use Rattle.sheets.specs.declared.Variant.the-variants.{Sx1272, Sx1276}
 use Rattle.sheets.specs.Reader.{readerOrder}
-use Rattle.registers.specs.declared.board.Board.{Board}
+use Rattle.params.specs.declared.board.Board.{Board}
 use Rattle.reader.specs.Look.{Examined}
 use Rattle.reader.proofs.SoFar.{begins}
 

@@ -15,7 +15,7 @@ use Rattle.sheets.specs.Registers.{RegTcxo}
 use Rattle.sheets.specs.Reader.{always, readerOrder}
 use Rattle.sheets.proofs.Sweep.{both, joined}
 use Rattle.params.specs.declared.mod_params.Link.{Link}
-use Rattle.registers.specs.declared.board.Board.{Board}
+use Rattle.params.specs.declared.board.Board.{Board}
 use Rattle.page.specs.Page.{Image, Place, Reading.found, Reading.notASetting, Same, nowhere, find, improved, program, guess, first, fits, read}
 use Rattle.page.proofs.Prefix.{guess-next, fits-first, refused-early, found-last}
 use Rattle.page.proofs.Find.{find-own}

@@ -6,7 +6,7 @@ use Prim.Native.Nat.{ℕ, _-_, _≤_, _<_}
 use lib.Dec.{T}
 use lib.ListN.{getD}
 use Rattle.sheets.specs.Reader.{readerOrder}
-use Rattle.registers.specs.declared.board.Board.{Board}
+use Rattle.params.specs.declared.board.Board.{Board}
 use Rattle.page.specs.Page.{guess as guessed, first, fits}
 use Rattle.lora_page.specs.Lora.{page}
 use Rattle.reader.specs.declared.Seen.{Seen}

@@ -9,11 +9,11 @@ ghost use Rattle.lora_page.specs.Reading.{tellsReading, readLink};
 ghost use Rattle.reader.specs.Look.{Examined, LastExamined, Looked};
 use guess::learn;
 use params::answers::LinkAnswer;
+use params::board::Board;
 use params::mod_params::Link;
 use params::mod_params::RadioError;
-use registers::board::Board;
+use params::units::Hertz;
 use trial::fits;
-use units::Hertz;
 
 // The guess from the registers looked at so far, how many they are, and whether it fits them.
 struct Seen {

@@ -2,7 +2,7 @@
 ghost use mathlib.Core.Path.{_≡_};
 ghost use Prim.Native.Nat.{_<_};
 ghost use Rattle.operations.proofs.Counts.{initRecords, modulationRecords, packetRecords, powerRecords, measuringRecords, lookingRecords, programRecords};
-use registers::board::Board;
+use params::board::Board;
 use sheets::Variant;
 
 pub fn init_records(tcxo_used: bool) -> usize

@@ -13,10 +13,10 @@ use admit::admit;
 use bases::write_bases;
 use bus::write_register;
 use params::answers::Answer;
+use params::board::Board;
 use params::mod_params::Verdict;
+use params::radio_kind_params::Register;
 use records::init_records;
-use registers::board::Board;
-use registers::radio_kind_params::Register;
 use sheets::Variant;
 use variants::reg_tcxo;
 

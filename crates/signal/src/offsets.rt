@@ -2,8 +2,8 @@
 ghost use mathlib.Core.Path.{_≡_};
 ghost use Prim.Native.Nat.{_^_, _<_};
 ghost use Rattle.sheets.specs.Signal.{offset};
+use params::units::Steps;
 use sheets::Variant;
-use units::Steps;
 
 const SX1272_RSSI_OFFSET: i16 = -139;
 

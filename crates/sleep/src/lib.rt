@@ -11,9 +11,9 @@ use admit::admit;
 use bus::write_sleep;
 use params::answers::Answer;
 use params::mod_params::Verdict;
+use params::radio_kind_params::Register;
+use params::values::LoRaMode;
 use pins::disable_rf_switch;
-use registers::radio_kind_params::Register;
-use values::LoRaMode;
 
 fn write_sleeping(image: &mut [u8], log: &mut [u8], at: usize) -> usize
     requires { ⌜ (at + 6 ≤ length (now log)) × (length (now image) ≡ 128) ⌝ }

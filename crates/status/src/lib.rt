@@ -15,11 +15,11 @@ use bus::read_register;
 use params::answers::StatusAnswer;
 use params::mod_params::PacketStatus;
 use params::mod_params::Verdict;
+use params::radio_kind_params::Register;
+use params::units::Steps;
 use records::status_records;
-use registers::radio_kind_params::Register;
 use sheets::Variant;
 use signal::offsets;
-use units::Steps;
 
 fn read_frf(image: &[u8], log: &mut [u8], at: usize) -> Steps
     requires { ⌜ (at + 9 ≤ length (now log)) × (length (now image) ≡ 128) ⌝ }

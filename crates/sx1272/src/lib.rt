@@ -11,7 +11,7 @@ use bus::write_register;
 use levels::pa_dac;
 use outputs::sx1272::clamped_power;
 use outputs::sx1272::pa_config;
-use registers::radio_kind_params::Register;
+use params::radio_kind_params::Register;
 use sheets::Variant;
 use variants::Sx1272;
 

@@ -13,8 +13,8 @@ use levels::pa_dac;
 use outputs::sx1276::clamped_power;
 use outputs::sx1276::ocp;
 use outputs::sx1276::pa_config;
+use params::radio_kind_params::Register;
 use pins::enable_rf_switch_rx;
-use registers::radio_kind_params::Register;
 use sheets::Variant;
 use variants::Sx1276;
 

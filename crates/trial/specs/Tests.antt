@@ -6,7 +6,7 @@ use lib.Dec.{eqb}
 use lib.ListN.{length, getD, take}
 use Rattle.sheets.specs.Reader.{readerOrder}
 use Rattle.params.specs.declared.mod_params.Link.{Link}
-use Rattle.registers.specs.declared.board.Board.{Board}
+use Rattle.params.specs.declared.board.Board.{Board}
 use Rattle.log.specs.Steps.{imageAfter}
 use Rattle.operations.specs.Programming.{programming}
 use Rattle.lora_page.specs.Links.{accepted}

@@ -8,9 +8,9 @@ ghost use Rattle.refusals.specs.Refusals.{linkRefusal};
 ghost use Rattle.trial.specs.Tests.{registers, alike, keeps, fitsSoFar};
 use acceptance::link_refusal;
 use link_writes::write_link;
+use params::board::Board;
 use params::mod_params::Link;
 use params::mod_params::Verdict;
-use registers::board::Board;
 use sheets::Variant;
 
 // How many registers of the order a board has.

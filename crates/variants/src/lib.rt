@@ -2,8 +2,8 @@
 ghost use mathlib.Core.Path.{_≡_};
 ghost use Rattle.sheets.specs.Registers.{RegTcxo, RegPaDac};
 ghost use Rattle.sheets.specs.Power.{rampBit};
-ghost use Rattle.registers.specs.Addresses.{address};
-use registers::radio_kind_params::Register;
+ghost use Rattle.params.specs.Addresses.{address};
+use params::radio_kind_params::Register;
 use sheets::Variant;
 
 pub struct Sx1272;

@@ -3,7 +3,7 @@
 use borrow.Author.Needs.{needs}
 use mathlib.Core.Path.{refl}
 use native.Mathlib.Omega.{arith}
-use Rattle.registers.proofs.Addresses.{address-lt}
+use Rattle.params.proofs.Addresses.{address-lt}
 use Rattle.bus.proofs.read_register.Statement.{statement}
 use Rattle.bus.proofs.read_register.Tie as tie
 

@@ -1,8 +1,0 @@
--- `units::Steps::frf_msb` meets its contract: each part is found by search.
--- Assumes nothing.
-use borrow.Author.Needs.{needs}
-use Rattle.units.proofs.Steps.frf_msb.Statement.{statement}
-use Rattle.units.proofs.Steps.frf_msb.Tie as tie
-
-pub frf-msb-spec : {M : Type 1} → statement M
-frf-msb-spec = tie.close (tie.spec (λ c. search needs) (λ c. search needs))

@@ -1,8 +1,0 @@
--- `values::RampTime::value` meets its contract: each part is found by search.
--- Assumes nothing.
-use borrow.Author.Needs.{needs}
-use Rattle.values.proofs.RampTime.value.Statement.{statement}
-use Rattle.values.proofs.RampTime.value.Tie as tie
-
-pub value-spec : {M : Type 1} → statement M
-value-spec = tie.close (tie.spec (λ c. search needs) (λ c. search needs) (λ c. search needs) (λ c. search needs))
