@@ -4,6 +4,9 @@ ghost use Rattle.refusals.specs.Refusals.{linkRefusal};
 ghost use Rattle.acceptance.specs.Parts.{linkNamed, linkHad};
 use params::mod_params::Link;
 use params::mod_params::Verdict;
+use refusals::availability;
+use refusals::codes;
+use refusals::link_refusals;
 use sheets::Variant;
 
 // 8 for each code of a link.

@@ -14,12 +14,13 @@ use bus::read_register;
 use bus::write_register;
 use irq_modes::event_refusal;
 use irq_modes::mode_or_sleep;
-use mode_codes::radio_mode;
 use outcome::irq_answer;
 use params::answers::IrqAnswer;
 use params::mod_params::Verdict;
 use params::radio_kind_params::Register;
 use records::event_records;
+use refusals::codes;
+use refusals::mode_codes::radio_mode;
 
 // The flags as they were before they are cleared.
 fn read_flags(image: &mut [u8], log: &mut [u8], at: usize, clear: u8) -> u8

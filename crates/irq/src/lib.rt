@@ -4,7 +4,7 @@ ghost use mathlib.Core.List.{[]};
 ghost use Prim.Native.Nat.{_+_, _≤_};
 ghost use lib.ListN.{length};
 ghost use Rattle.params.specs.Answers.{tellsDone, usedDone};
-ghost use Rattle.mode_codes.specs.Modes.{activity};
+ghost use Rattle.refusals.specs.Modes.{activity};
 ghost use Rattle.log.specs.Steps.{Done};
 ghost use Rattle.admit.specs.Call.{Meets};
 ghost use Rattle.operations.specs.Interrupts.{preparing, setIrq};
@@ -17,11 +17,11 @@ use irq_modes::irq_flags;
 use irq_modes::irq_flags_mask;
 use irq_modes::mode_or_sleep;
 use irq_modes::set_refusal;
-use mode_codes::radio_mode;
 use params::answers::Answer;
 use params::mod_params::RadioMode;
 use params::mod_params::Verdict;
 use params::radio_kind_params::Register;
+use refusals::mode_codes::radio_mode;
 
 fn write_irq_params(image: &mut [u8], log: &mut [u8], at: usize, mode: RadioMode) -> usize
     requires { ⌜ (at + 12 ≤ length (now log)) × (length (now image) ≡ 128) ⌝ }

@@ -12,8 +12,8 @@ use Rattle.params.specs.declared.mod_params.RadioMode.the-variants.{Sleep, Stan
 use Rattle.params.specs.declared.mod_params.Verdict.the-variants.{Clear}
 use Rattle.params.proofs.mod_params.RadioMode as mode
 use Rattle.params.proofs.mod_params.RxMode as rx
-use Rattle.mode_codes.specs.declared.ModeCode.the-variants.{Named}
-use Rattle.mode_codes.specs.Modes.{activity}
+use Rattle.refusals.specs.declared.mode_codes.ModeCode.the-variants.{Named}
+use Rattle.refusals.specs.Modes.{activity}
 use Rattle.operations.specs.Interrupts.{eventRefusal}
 
 pub other-activity : (m : RadioMode) → OneOf (0 ∷ 1 ∷ 2 ∷ []) (tagOf mode.the-type m) → activity m ≡ other

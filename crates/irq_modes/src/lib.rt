@@ -1,14 +1,14 @@
 // What a mode means for interrupts: which are shut out and cleared when they are set up, which pins tell them, and where a call for them is refused.
 ghost use mathlib.Core.Path.{_≡_};
 ghost use Rattle.sheets.specs.Interrupts.{shutOut, mappingKeeps, mapping, clearing};
-ghost use Rattle.mode_codes.specs.declared.ModeCode.the-variants.{Named};
-ghost use Rattle.mode_codes.specs.Modes.{activity};
+ghost use Rattle.refusals.specs.declared.mode_codes.ModeCode.the-variants.{Named};
+ghost use Rattle.refusals.specs.Modes.{activity};
 ghost use Rattle.operations.specs.Interrupts.{activityOf, irqRefusal, eventRefusal};
-use mode_codes::ModeCode;
 use params::mod_params::RadioError;
 use params::mod_params::RadioMode;
 use params::mod_params::RxMode;
 use params::mod_params::Verdict;
+use refusals::mode_codes::ModeCode;
 
 // A 1 shuts an interrupt out.
 pub fn irq_flags_mask(mode: RadioMode) -> u8

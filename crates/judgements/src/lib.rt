@@ -4,6 +4,8 @@ ghost use Prim.Native.Nat.{_≤_, _<_};
 ghost use Rattle.sheets.specs.Modem.{optimize};
 ghost use Rattle.operations.specs.Modem.{modulationNamed, modulationHad, packetNamed};
 use params::mod_params::Verdict;
+use refusals::availability;
+use refusals::codes;
 use sheets::Variant;
 use sheets::bandwidth_hertz;
 

@@ -15,6 +15,7 @@ use params::answers::Answer;
 use params::mod_params::ModulationParams;
 use params::mod_params::Verdict;
 use records::modulation_records;
+use refusals::codes;
 use sheets::Variant;
 
 // Each variant has its own modem registers.

@@ -16,8 +16,8 @@ use Rattle.params.specs.declared.mod_params.Verdict.{Verdict}
 use Rattle.params.specs.declared.mod_params.Verdict.the-variants.{Clear}
 use Rattle.params.specs.Errors.{or}
 use Rattle.params.specs.declared.board.Board.{Board}
-use Rattle.mode_codes.specs.declared.RxModeCode.{RxModeCode}
-use Rattle.mode_codes.specs.declared.ModeCode.{ModeCode}
+use Rattle.refusals.specs.declared.mode_codes.RxModeCode.{RxModeCode}
+use Rattle.refusals.specs.declared.mode_codes.ModeCode.{ModeCode}
 use Rattle.refusals.specs.Refusals.{flag, baseAddresses, carrier, linkRefusal}
 use Rattle.log.specs.Steps.{Step, Makes, Quiet}
 use Rattle.admit.specs.Call.{well}

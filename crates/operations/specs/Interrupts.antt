@@ -12,9 +12,9 @@ use Rattle.params.specs.declared.mod_params.Verdict.{Verdict}
 use Rattle.params.specs.declared.mod_params.Verdict.the-variants.{Clear, Refused}
 use Rattle.params.specs.Answers.{flagValue}
 use Rattle.params.specs.Errors.{Told, told, refusal, or}
-use Rattle.mode_codes.specs.declared.ModeCode.{ModeCode}
-use Rattle.mode_codes.specs.declared.ModeCode.the-variants.{Named, NoMode, NoCase}
-use Rattle.mode_codes.specs.Modes.{modeOf, activity}
+use Rattle.refusals.specs.declared.mode_codes.ModeCode.{ModeCode}
+use Rattle.refusals.specs.declared.mode_codes.ModeCode.the-variants.{Named, NoMode, NoCase}
+use Rattle.refusals.specs.Modes.{modeOf, activity}
 use Rattle.refusals.specs.Refusals.{flag}
 use Rattle.log.specs.Steps.{Step, Read, Write, Modify}
 use Rattle.admit.specs.Call.{Outcome, call, well}

@@ -9,9 +9,9 @@ use Rattle.params.specs.declared.mod_params.RadioError.the-variants.{InvalidCon
 use Rattle.params.specs.declared.mod_params.RxMode.the-variants.{Single, Continuous, DutyCycle}
 use Rattle.params.specs.declared.mod_params.Verdict.{Verdict}
 use Rattle.params.specs.declared.mod_params.Verdict.the-variants.{Clear, Refused}
-use Rattle.mode_codes.specs.declared.RxModeCode.{RxModeCode}
-use Rattle.mode_codes.specs.declared.RxModeCode.the-variants.{Named, NoCase}
-use Rattle.mode_codes.specs.Modes.{rxModeOf}
+use Rattle.refusals.specs.declared.mode_codes.RxModeCode.{RxModeCode}
+use Rattle.refusals.specs.declared.mode_codes.RxModeCode.the-variants.{Named, NoCase}
+use Rattle.refusals.specs.Modes.{rxModeOf}
 use Rattle.refusals.specs.Refusals.{carrier}
 use Rattle.log.specs.Steps.{Step, Write, Put, RfSwitch, ResetPin, SleepWrite}
 use Rattle.admit.specs.Call.{Outcome, call, well}

@@ -2,7 +2,7 @@
 ghost use mathlib.Core.Path.{_≡_};
 ghost use Rattle.sheets.specs.Interrupts.{Activity.transmitting, Activity.receiving, Activity.detecting, event};
 ghost use Rattle.params.specs.Answers.{tellsIrq, usedIrq};
-ghost use Rattle.mode_codes.specs.Modes.{activity};
+ghost use Rattle.refusals.specs.Modes.{activity};
 ghost use Rattle.operations.specs.Interrupts.{eventTold};
 use params::answers::IrqAnswer;
 use params::irq_masks::IrqMask;

@@ -12,6 +12,8 @@ use params::mod_params::ModulationParams;
 use params::mod_params::PacketParams;
 use params::mod_params::Verdict;
 use params::units::Hertz;
+use refusals::codes;
+use refusals::link_refusals;
 use sheets::Variant;
 
 pub fn create_modulation_params(

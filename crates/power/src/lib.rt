@@ -16,6 +16,7 @@ use params::mod_params::Verdict;
 use params::radio_kind_params::Register;
 use ramps::ramp_value;
 use records::power_records;
+use refusals::codes;
 use sheets::Variant;
 
 fn set_tx_power(

@@ -11,13 +11,13 @@ ghost use Rattle.operations.specs.Modes.{reception, rxRefusal, rxWindow, rxOpMo
 use admit::admit;
 use listening::write_listening;
 use listening::write_window;
-use mode_codes::RxModeCode;
-use mode_codes::rx_mode;
 use params::answers::Answer;
 use params::mod_params::RadioError;
 use params::mod_params::RxMode;
 use params::mod_params::Verdict;
 use pins::enable_rf_switch_rx;
+use refusals::mode_codes::RxModeCode;
+use refusals::mode_codes::rx_mode;
 
 fn write_rx(
     image: &mut [u8],

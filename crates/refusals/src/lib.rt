@@ -1,9 +1,14 @@
-// What the arguments of a call are refused by, each in one place, where the refusal is no link's.
+// What refuses an argument: codes that name no case, what a radio has not, settings that do not go together.
 ghost use mathlib.Core.Path.{_≡_};
 ghost use Rattle.refusals.specs.Refusals.{baseAddresses, payloadLength, carrier};
 use params::mod_params::RadioError;
 use params::mod_params::Verdict;
 use sheets::Variant;
+
+pub mod availability;
+pub mod codes;
+pub mod link_refusals;
+pub mod mode_codes;
 
 // 11: a base above 255.
 pub fn base_addresses(tx: usize, rx: usize) -> Verdict

@@ -17,6 +17,7 @@ use params::board::Board;
 use params::mod_params::Verdict;
 use params::radio_kind_params::Register;
 use records::init_records;
+use refusals::codes;
 use sheets::Variant;
 use variants::reg_tcxo;
 

@@ -5,7 +5,7 @@ use mathlib.Core.Path.{_≡_, sym}
 use native.Mathlib.Omega.{arith}
 use denote.Ref.{now}
 use Rattle.params.specs.Errors.{or}
-use Rattle.mode_codes.specs.Modes.{modeOf}
+use Rattle.refusals.specs.Modes.{modeOf}
 use Rattle.refusals.specs.Refusals.{flag}
 use Rattle.admit.proofs.Calls.{Decided, decided}
 use Rattle.operations.specs.Interrupts.{eventRefusal}

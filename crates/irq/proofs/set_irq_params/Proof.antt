@@ -4,7 +4,7 @@ use borrow.Author.Needs.{needs}
 use mathlib.Core.Path.{refl}
 use native.Mathlib.Omega.{arith}
 use denote.Ref.{now}
-use Rattle.mode_codes.specs.Modes.{modeOf}
+use Rattle.refusals.specs.Modes.{modeOf}
 use Rattle.admit.proofs.Calls.{Decided, decided}
 use Rattle.operations.proofs.Operations.{irq-op}
 use Rattle.irq.proofs.set_irq_params.Statement.{statement}

@@ -5,7 +5,7 @@ use mathlib.Core.Path.{_≡_, refl}
 use native.Mathlib.Omega.{arith}
 use denote.Ref.{now}
 use Rattle.admit.proofs.Calls.{Decided, decided}
-use Rattle.mode_codes.specs.Modes.{rxModeOf}
+use Rattle.refusals.specs.Modes.{rxModeOf}
 use Rattle.operations.specs.Modes.{rxRefusal, rxWindow, rxOpMode}
 use Rattle.operations.proofs.Operations.{rx-op}
 use Rattle.receive.proofs.do_rx.Statement.{statement}

@@ -1,8 +1,0 @@
--- `codes::bandwidth` meets its contract: each part is found by search.
--- Assumes nothing.
-use borrow.Author.Needs.{needs}
-use Rattle.codes.proofs.bandwidth.Statement.{statement}
-use Rattle.codes.proofs.bandwidth.Tie as tie
-
-pub bandwidth-spec : {M : Type 1} → statement M
-bandwidth-spec = tie.close (tie.spec (λ c κs. search needs) (λ c. search needs))

@@ -1,8 +1,0 @@
--- `codes::flag` meets its contract: each part is found by search.
--- Assumes nothing.
-use borrow.Author.Needs.{needs}
-use Rattle.codes.proofs.flag.Statement.{statement}
-use Rattle.codes.proofs.flag.Tie as tie
-
-pub flag-spec : {M : Type 1} → statement M
-flag-spec = tie.close (tie.spec (λ c κs. search needs) (λ c. search needs))
