@@ -4,7 +4,7 @@ use Prim.Native.Nat.{ℕ}
 use Rattle.sheets.specs.declared.Variant.{Variant}
 use Rattle.params.specs.Errors.{Told}
 use Rattle.params.specs.declared.board.Board.{Board}
-use Rattle.admit.specs.Call.{Outcome, well}
+use Rattle.bus.specs.Call.{Outcome, well}
 use Rattle.operations.specs.Setup.{initLora, setBases, setChannel}
 use Rattle.operations.specs.Modes.{reset, setStandby, setSleep, doTx, doCad, doRx, setCarrier}
 use Rattle.operations.specs.Power.{setPower}

@@ -1,7 +1,7 @@
 // The choice of a call, for operations that are lent an image and a log, and are done or refused.
 ghost use mathlib.Core.List.{[]};
 ghost use Rattle.params.specs.Answers.{tellsDone, usedDone};
-ghost use Rattle.admit.specs.Call.{Meets};
+ghost use Rattle.bus.specs.Call.{Meets};
 ghost use Rattle.acts.specs.Acts.{done as doneBy};
 use crate::lent::do_rx;
 use crate::lent::set_bases;

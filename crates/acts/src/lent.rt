@@ -1,7 +1,7 @@
 // Calls that take two numbers or three and are lent an image and a log.
 ghost use mathlib.Core.List.{[]};
 ghost use Rattle.params.specs.Answers.{tellsDone, usedDone, tellsIrq, usedIrq};
-ghost use Rattle.admit.specs.Call.{Meets};
+ghost use Rattle.bus.specs.Call.{Meets};
 ghost use Rattle.operations.specs.Setup.{setBases};
 ghost use Rattle.operations.specs.Power.{setPower};
 ghost use Rattle.operations.specs.Modes.{doRx};

@@ -1,13 +1,20 @@
-// One access each: its record in the log and its effect on the image. The place where the next record goes is returned.
+// The bus: one access each, its record in the log and its effect on the image; the switch, the FIFO, and who is let on. The place where the next record goes is returned.
 ghost use mathlib.Core.Path.{_≡_};
 ghost use mathlib.Core.List.{[], _∷_};
 ghost use Prim.Native.Nat.{_+_, _≤_};
 ghost use lib.ListN.{length, getD};
 ghost use Rattle.params.specs.Addresses.{address};
-ghost use Rattle.log.specs.Steps.{Done, Read, Write, Modify, SleepWrite};
-use log::append;
+ghost use Rattle.bus.specs.Steps.{Done, Read, Write, Modify, SleepWrite};
+use crate::log::append;
+use crate::writes::write_kind;
 use params::radio_kind_params::Register;
-use writes::write_kind;
+
+pub mod admit;
+pub mod bursts;
+pub mod fifo;
+pub mod log;
+pub mod pins;
+pub mod writes;
 
 // What the register holds; the next record goes three bytes on.
 pub fn read_register(image: &[u8], log: &mut [u8], at: usize, register: Register) -> u8

@@ -1,9 +1,9 @@
 // The carrier test: `set_tx_continuous_wave_mode`, which the Rust has for the SX1276 alone.
 ghost use mathlib.Core.List.{[]};
 ghost use Rattle.params.specs.Answers.{tellsDone, usedDone};
-ghost use Rattle.admit.specs.Call.{Meets};
+ghost use Rattle.bus.specs.Call.{Meets};
 ghost use Rattle.operations.specs.Modes.{setCarrier};
-use admit::admit;
+use bus::admit::admit;
 use params::answers::Answer;
 use params::mod_params::Verdict;
 use sheets::Variant;

@@ -5,17 +5,17 @@ ghost use Prim.Native.Nat.{_+_, _≤_};
 ghost use lib.ListN.{length};
 ghost use Rattle.sheets.specs.Receive.{lna};
 ghost use Rattle.params.specs.Answers.{tellsDone, usedDone};
-ghost use Rattle.log.specs.Steps.{Done};
-ghost use Rattle.admit.specs.Call.{Meets};
+ghost use Rattle.bus.specs.Steps.{Done};
+ghost use Rattle.bus.specs.Call.{Meets};
 ghost use Rattle.operations.specs.Modes.{detecting, doCad};
-use admit::admit;
+use bus::admit::admit;
+use bus::pins::enable_rf_switch_rx;
 use bus::write_register;
 use params::answers::Answer;
 use params::mod_params::Verdict;
 use params::radio_kind_params::Register;
 use params::values::LnaGain;
 use params::values::LoRaMode;
-use pins::enable_rf_switch_rx;
 
 pub fn lna_gain(rx_boost: bool) -> u8
     ensures { λ r. ⌜ r ≡ lna «rx_boost» ⌝ }

@@ -10,8 +10,8 @@ use Rattle.params.specs.declared.mod_params.Verdict.{Verdict}
 use Rattle.params.specs.declared.mod_params.Verdict.the-variants.{Clear, Refused}
 use Rattle.params.specs.declared.board.Board.{Board}
 use Rattle.refusals.specs.Refusals.{linkRefusal}
-use Rattle.log.specs.Steps.{endAfter}
-use Rattle.admit.specs.Call.{admitted, settled, well}
+use Rattle.bus.specs.Steps.{endAfter}
+use Rattle.bus.specs.Call.{admitted, settled, well}
 use Rattle.operations.specs.Programming.{programming, programLink}
 use Rattle.lora_page.specs.Links.{clear, accepted, Accepted}
 use Rattle.link.specs.Programmed.{programmed}

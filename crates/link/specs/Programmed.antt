@@ -3,7 +3,7 @@ use mathlib.Core.List.{List}
 use Prim.Native.Nat.{ℕ}
 use Rattle.params.specs.declared.mod_params.Link.{Link}
 use Rattle.params.specs.declared.board.Board.{Board}
-use Rattle.log.specs.Steps.{imageAfter}
+use Rattle.bus.specs.Steps.{imageAfter}
 use Rattle.operations.specs.Programming.{programming}
 
 abbrev pub programmed : Board → Link → List ℕ → List ℕ

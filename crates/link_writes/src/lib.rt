@@ -4,7 +4,7 @@ ghost use mathlib.Core.List.{_++_};
 ghost use Prim.Native.Nat.{_+_, _*_, _≤_};
 ghost use lib.ListN.{length};
 ghost use Rattle.refusals.specs.Refusals.{linkRefusal};
-ghost use Rattle.log.specs.Steps.{Done};
+ghost use Rattle.bus.specs.Steps.{Done};
 ghost use Rattle.operations.specs.Power.{power};
 ghost use Rattle.operations.specs.Programming.{linkModulation, linkPacket, programming};
 ghost use Rattle.operations.proofs.Counts.{modulationRecords, packetRecords, powerRecords, programRecords};

@@ -16,7 +16,7 @@ use Rattle.sheets.proofs.Modem.{optimize-le, code-76, code-72}
 use Rattle.sheets.proofs.Sweep.{equal, equal₂, equal₃}
 use Rattle.params.specs.declared.mod_params.Link.{Link}
 use Rattle.params.specs.declared.board.Board.{Board}
-use Rattle.log.specs.Steps.{imageAfter}
+use Rattle.bus.specs.Steps.{imageAfter}
 use Rattle.operations.specs.Programming.{programming}
 use Rattle.page.specs.Page.{Image, program}
 use Rattle.lora_page.specs.Links.{accepted}

@@ -4,17 +4,17 @@ ghost use mathlib.Core.List.{[]};
 ghost use Prim.Native.Nat.{_+_, _≤_};
 ghost use lib.ListN.{length};
 ghost use Rattle.params.specs.Answers.{tellsDone, usedDone};
-ghost use Rattle.log.specs.Steps.{Done};
-ghost use Rattle.admit.specs.Call.{Meets};
+ghost use Rattle.bus.specs.Steps.{Done};
+ghost use Rattle.bus.specs.Call.{Meets};
 ghost use Rattle.operations.specs.Modes.{standby, transmission, setStandby, doTx};
-use admit::admit;
+use bus::admit::admit;
+use bus::pins::disable_rf_switch;
+use bus::pins::enable_rf_switch_tx;
 use bus::write_register;
 use params::answers::Answer;
 use params::mod_params::Verdict;
 use params::radio_kind_params::Register;
 use params::values::LoRaMode;
-use pins::disable_rf_switch;
-use pins::enable_rf_switch_tx;
 
 fn write_standby(image: &mut [u8], log: &mut [u8], at: usize) -> usize
     requires { ⌜ (at + 6 ≤ length (now log)) × (length (now image) ≡ 128) ⌝ }

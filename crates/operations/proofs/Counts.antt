@@ -12,8 +12,8 @@ use Rattle.sheets.specs.Interrupts.{Activity}
 use Rattle.sheets.specs.Modem.{optimize}
 use Rattle.params.specs.declared.mod_params.Link.{Link}
 use Rattle.params.specs.declared.board.Board.{Board}
-use Rattle.log.specs.Steps.{Makes, Quiet}
-use Rattle.log.proofs.Runs.{makes-then}
+use Rattle.bus.specs.Steps.{Makes, Quiet}
+use Rattle.bus.proofs.log.Runs.{makes-then}
 use Rattle.operations.specs.Setup.{oscillator, network, bases, initialization, channel}
 use Rattle.operations.specs.Modem.{modulation, framing, packet}
 use Rattle.operations.specs.Power.{power}

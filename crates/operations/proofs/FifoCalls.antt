@@ -12,9 +12,9 @@ use Rattle.params.specs.declared.mod_params.Verdict.the-variants.{Clear, Refuse
 use Rattle.params.specs.Errors.{Told, refusal}
 use Rattle.refusals.specs.Refusals.{payloadLength}
 use Rattle.refusals.proofs.Clear.{passes}
-use Rattle.log.specs.Steps.{Step}
-use Rattle.admit.specs.Call.{Meets, admittedFifo, settled, well}
-use Rattle.admit.proofs.Calls.{Room, admittedFifo→room}
+use Rattle.bus.specs.Steps.{Step}
+use Rattle.bus.specs.Call.{Meets, admittedFifo, settled, well}
+use Rattle.bus.proofs.admit.Calls.{Room, admittedFifo→room}
 use Rattle.operations.specs.Packets.{sending, received, startOf, fetchTold, fetchSteps}
 
 -- What a call that is lent a FIFO is: its arguments' refusal, the records that it asks room for, what it tells, and its steps.

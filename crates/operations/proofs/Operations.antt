@@ -19,9 +19,9 @@ use Rattle.params.specs.declared.board.Board.{Board}
 use Rattle.refusals.specs.declared.mode_codes.RxModeCode.{RxModeCode}
 use Rattle.refusals.specs.declared.mode_codes.ModeCode.{ModeCode}
 use Rattle.refusals.specs.Refusals.{flag, baseAddresses, carrier, linkRefusal}
-use Rattle.log.specs.Steps.{Step, Makes, Quiet}
-use Rattle.admit.specs.Call.{well}
-use Rattle.admit.proofs.Calls.{Operation}
+use Rattle.bus.specs.Steps.{Step, Makes, Quiet}
+use Rattle.bus.specs.Call.{well}
+use Rattle.bus.proofs.admit.Calls.{Operation}
 use Rattle.operations.specs.Setup.{initialization, bases, channel}
 use Rattle.operations.specs.Modem.{modulationRefusal, modulationSteps, packetRefusal, packetSteps}
 use Rattle.operations.specs.Power.{power}

@@ -16,8 +16,8 @@ use Rattle.refusals.specs.declared.mode_codes.ModeCode.{ModeCode}
 use Rattle.refusals.specs.declared.mode_codes.ModeCode.the-variants.{Named, NoMode, NoCase}
 use Rattle.refusals.specs.Modes.{modeOf, activity}
 use Rattle.refusals.specs.Refusals.{flag}
-use Rattle.log.specs.Steps.{Step, Read, Write, Modify}
-use Rattle.admit.specs.Call.{Outcome, call, well}
+use Rattle.bus.specs.Steps.{Step, Read, Write, Modify}
+use Rattle.bus.specs.Call.{Outcome, call, well}
 
 -- ---- set up
 

@@ -13,8 +13,8 @@ use Rattle.params.specs.declared.mod_params.Verdict.{Verdict}
 use Rattle.params.specs.declared.mod_params.Verdict.the-variants.{Clear, Refused}
 use Rattle.params.specs.Errors.{Told, told, refusal, or}
 use Rattle.refusals.specs.Refusals.{spreadingFactor, bandwidth, codingRate, flag, spreadingFactorValue, bandwidthValue, bandwidthForFrequency, headerForSpreadingFactor}
-use Rattle.log.specs.Steps.{Step, Write, Modify, Put}
-use Rattle.admit.specs.Call.{Outcome, call, well}
+use Rattle.bus.specs.Steps.{Step, Write, Modify, Put}
+use Rattle.bus.specs.Call.{Outcome, call, well}
 
 -- ---- the records
 

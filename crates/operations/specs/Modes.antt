@@ -13,8 +13,8 @@ use Rattle.refusals.specs.declared.mode_codes.RxModeCode.{RxModeCode}
 use Rattle.refusals.specs.declared.mode_codes.RxModeCode.the-variants.{Named, NoCase}
 use Rattle.refusals.specs.Modes.{rxModeOf}
 use Rattle.refusals.specs.Refusals.{carrier}
-use Rattle.log.specs.Steps.{Step, Write, Put, RfSwitch, ResetPin, SleepWrite}
-use Rattle.admit.specs.Call.{Outcome, call, well}
+use Rattle.bus.specs.Steps.{Step, Write, Put, RfSwitch, ResetPin, SleepWrite}
+use Rattle.bus.specs.Call.{Outcome, call, well}
 
 -- ---- the antenna switch
 

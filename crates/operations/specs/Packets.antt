@@ -14,8 +14,8 @@ use Rattle.params.specs.declared.mod_params.RadioError.the-variants.{PayloadSiz
 use Rattle.params.specs.declared.mod_params.Verdict.the-variants.{Clear}
 use Rattle.params.specs.Errors.{Told, told, refusal}
 use Rattle.refusals.specs.Refusals.{payloadLength}
-use Rattle.log.specs.Steps.{Step, Read, Write, FifoRead, FifoWrite, endAfter}
-use Rattle.admit.specs.Call.{Outcome, call, callFifo, settled, admittedFifo, well}
+use Rattle.bus.specs.Steps.{Step, Read, Write, FifoRead, FifoWrite, endAfter}
+use Rattle.bus.specs.Call.{Outcome, call, callFifo, settled, admittedFifo, well}
 
 -- ---- a payload to send
 

@@ -9,8 +9,8 @@ use Rattle.sheets.specs.Registers.{RegPaConfig, RegPaRamp, RegOcp, RegPaDac}
 use Rattle.sheets.specs.Power.{paConfig, paDac, ocp, paRamp}
 use Rattle.params.specs.declared.board.Board.{Board}
 use Rattle.refusals.specs.Refusals.{flag}
-use Rattle.log.specs.Steps.{Step, Write}
-use Rattle.admit.specs.Call.{Outcome, call, well}
+use Rattle.bus.specs.Steps.{Step, Write}
+use Rattle.bus.specs.Call.{Outcome, call, well}
 
 abbrev pub amplifier : Variant → Bool → ℤ → List Step
 amplifier Sx1276 boost p = Write (RegPaDac Sx1276) (paDac Sx1276 boost p) ∷ Write RegOcp (ocp boost p) ∷ Write RegPaConfig (paConfig Sx1276 boost p) ∷ []

@@ -5,8 +5,8 @@ use Rattle.sheets.specs.Modem.{optimize}
 use Rattle.params.specs.declared.mod_params.Link.{Link}
 use Rattle.params.specs.declared.board.Board.{Board}
 use Rattle.refusals.specs.Refusals.{linkRefusal}
-use Rattle.log.specs.Steps.{Step}
-use Rattle.admit.specs.Call.{Outcome, call, well}
+use Rattle.bus.specs.Steps.{Step}
+use Rattle.bus.specs.Call.{Outcome, call, well}
 use Rattle.operations.specs.Setup.{initialization, channel}
 use Rattle.operations.specs.Modem.{modulation, packet}
 use Rattle.operations.specs.Power.{power}

@@ -10,8 +10,8 @@ use Rattle.sheets.specs.Modem.{syncWord}
 use Rattle.params.specs.declared.mod_params.Verdict.the-variants.{Clear}
 use Rattle.params.specs.declared.board.Board.{Board}
 use Rattle.refusals.specs.Refusals.{flag, baseAddresses}
-use Rattle.log.specs.Steps.{Step, Write}
-use Rattle.admit.specs.Call.{Outcome, call, well}
+use Rattle.bus.specs.Steps.{Step, Write}
+use Rattle.bus.specs.Call.{Outcome, call, well}
 
 -- the oscillator's input is turned on where the board has one
 abbrev pub oscillator : Variant → Bool → List Step

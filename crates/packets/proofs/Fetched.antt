@@ -9,9 +9,9 @@ use lib.ListN.{length}
 use Rattle.sheets.specs.Registers.{RegRxNbBytes}
 use Rattle.params.specs.declared.mod_params.RadioError.the-variants.{PayloadSizeMismatch}
 use Rattle.params.specs.Errors.{told, refusal}
-use Rattle.log.specs.Steps.{Done, Read, bufferAfter}
-use Rattle.log.proofs.Runs.{then}
-use Rattle.admit.specs.Call.{Meets}
+use Rattle.bus.specs.Steps.{Done, Read, bufferAfter}
+use Rattle.bus.proofs.log.Runs.{then}
+use Rattle.bus.specs.Call.{Meets}
 use Rattle.operations.specs.Packets.{received, startOf}
 use Rattle.packets.specs.Fetch.{unloading, fetched}
 

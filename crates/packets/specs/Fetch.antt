@@ -5,8 +5,8 @@ use lib.Dec.{leb}
 use lib.ListN.{length}
 use Rattle.sheets.specs.Registers.{RegFifoAddrPtr, RegFifoRxCurrentAddr}
 use Rattle.params.specs.declared.mod_params.Verdict.the-variants.{Clear}
-use Rattle.log.specs.Steps.{Step, Read, Write, FifoRead}
-use Rattle.admit.specs.Call.{Outcome, settled}
+use Rattle.bus.specs.Steps.{Step, Read, Write, FifoRead}
+use Rattle.bus.specs.Call.{Outcome, settled}
 use Rattle.operations.specs.Packets.{received, startOf, fetchTold, fetchSteps}
 
 abbrev pub unloading : ℕ → ℕ → List Step

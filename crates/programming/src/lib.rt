@@ -1,10 +1,10 @@
 // Whole programming of a link: it is refused, or its steps are done.
 ghost use mathlib.Core.List.{[]};
 ghost use Rattle.params.specs.Answers.{tellsDone, usedDone};
-ghost use Rattle.admit.specs.Call.{Meets};
+ghost use Rattle.bus.specs.Call.{Meets};
 ghost use Rattle.operations.specs.Programming.{programLink};
 use acceptance::link_refusal;
-use admit::admit;
+use bus::admit::admit;
 use link_writes::write_link;
 use params::answers::Answer;
 use params::board::Board;

@@ -4,16 +4,17 @@ ghost use mathlib.Core.List.{[]};
 ghost use Prim.Native.Nat.{_+_, _≤_};
 ghost use lib.ListN.{length};
 ghost use Rattle.params.specs.Answers.{tellsDone, usedDone};
-ghost use Rattle.log.specs.Steps.{Done};
-ghost use Rattle.admit.specs.Call.{Meets};
+ghost use Rattle.bus.specs.Steps.{Done};
+ghost use Rattle.bus.specs.Call.{Meets};
 ghost use Rattle.operations.specs.Modes.{sleep, resetting, setSleep, reset};
-use admit::admit;
+use bus::admit::admit;
+use bus::pins;
+use bus::pins::disable_rf_switch;
 use bus::write_sleep;
 use params::answers::Answer;
 use params::mod_params::Verdict;
 use params::radio_kind_params::Register;
 use params::values::LoRaMode;
-use pins::disable_rf_switch;
 
 fn write_sleeping(image: &mut [u8], log: &mut [u8], at: usize) -> usize
     requires { ⌜ (at + 6 ≤ length (now log)) × (length (now image) ≡ 128) ⌝ }

@@ -12,8 +12,8 @@ use Rattle.params.specs.declared.answers.IrqAnswer.{IrqAnswer}
 use Rattle.params.specs.Errors.{Told}
 use Rattle.params.specs.Answers.{tellsDone, usedDone, tellsPayload, usedPayload, tellsStatus, usedStatus, tellsIrq, usedIrq, tellsModulation, tellsPacket}
 use Rattle.params.proofs.Determined.{answer-determined, payload-determined, status-determined, irq-determined, modulation-determined, packet-determined}
-use Rattle.admit.specs.Call.{Outcome, Meets}
-use Rattle.admit.proofs.Calls.{only}
+use Rattle.bus.specs.Call.{Outcome, Meets}
+use Rattle.bus.proofs.admit.Calls.{only}
 
 -- an answer and all that was lent, as a call leaves them
 abbrev Same : {A : Type 0} → A → A → (im im′ fifo fifo′ log log′ buffer buffer′ : List ℕ) → Type 0

@@ -9,7 +9,7 @@ use mir.Syntax.{w32}
 use mir.Val.{toZ}
 use mir.ValLaws.{toZ-pos}
 use Rattle.params.specs.Errors.{Told}
-use Rattle.admit.specs.Call.{Outcome, Meets}
+use Rattle.bus.specs.Call.{Outcome, Meets}
 use Rattle.results.specs.Results.{Tells}
 use Rattle.telling.specs.Exports.{Exported}
 

@@ -3,7 +3,7 @@ use mathlib.Core.Path.{_≡_}
 use mathlib.Core.List.{List}
 use Prim.Native.Nat.{ℕ}
 use lib.IntN.{ℤ}
-use Rattle.admit.specs.Call.{Outcome}
+use Rattle.bus.specs.Call.{Outcome}
 use Rattle.results.specs.Results.{Tells}
 
 -- What an exported call leaves is an outcome, told.

@@ -7,7 +7,7 @@ use lib.ListN.{length, getD, take}
 use Rattle.sheets.specs.Reader.{readerOrder}
 use Rattle.params.specs.declared.mod_params.Link.{Link}
 use Rattle.params.specs.declared.board.Board.{Board}
-use Rattle.log.specs.Steps.{imageAfter}
+use Rattle.bus.specs.Steps.{imageAfter}
 use Rattle.operations.specs.Programming.{programming}
 use Rattle.lora_page.specs.Links.{accepted}
 

@@ -4,7 +4,7 @@ use borrow.Author.Needs.{needs}
 use mathlib.Core.Path.{refl}
 use native.Mathlib.Omega.{arith}
 use denote.Ref.{now}
-use Rattle.admit.proofs.Calls.{Decided, decided}
+use Rattle.bus.proofs.admit.Calls.{Decided, decided}
 use Rattle.operations.proofs.Operations.{bases-op}
 use Rattle.bases.proofs.set_tx_rx_buffer_base_address.Statement.{statement}
 use Rattle.bases.proofs.set_tx_rx_buffer_base_address.Tie as tie

@@ -1,7 +1,7 @@
 -- `bases::write_bases` meets its contract: two writes.
 -- Assumes nothing.
 use borrow.Author.Needs.{needs}
-use Rattle.log.proofs.Runs.{then}
+use Rattle.bus.proofs.log.Runs.{then}
 use Rattle.bases.proofs.write_bases.Statement.{statement}
 use Rattle.bases.proofs.write_bases.Tie as tie
 

@@ -4,7 +4,7 @@ use borrow.Author.Needs.{needs}
 use mathlib.Core.Path.{refl}
 use native.Mathlib.Omega.{arith}
 use denote.Ref.{now}
-use Rattle.admit.proofs.Calls.{Decided, decided}
+use Rattle.bus.proofs.admit.Calls.{Decided, decided}
 use Rattle.operations.proofs.Operations.{carrier-op}
 use Rattle.carrier.proofs.set_tx_continuous_wave_mode.Statement.{statement}
 use Rattle.carrier.proofs.set_tx_continuous_wave_mode.Tie as tie

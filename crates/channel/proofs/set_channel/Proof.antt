@@ -4,7 +4,7 @@ use borrow.Author.Needs.{needs}
 use mathlib.Core.Path.{refl}
 use native.Mathlib.Omega.{arith}
 use denote.Ref.{now}
-use Rattle.admit.proofs.Calls.{Decided, decided}
+use Rattle.bus.proofs.admit.Calls.{Decided, decided}
 use Rattle.operations.proofs.Operations.{channel-op}
 use Rattle.channel.proofs.set_channel.Statement.{statement}
 use Rattle.channel.proofs.set_channel.Tie as tie

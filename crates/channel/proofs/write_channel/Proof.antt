@@ -1,7 +1,7 @@
 -- `channel::write_channel` meets its contract: three writes of what the steps' bytes are.
 -- Assumes nothing.
 use borrow.Author.Needs.{needs}
-use Rattle.log.proofs.Runs.{then}
+use Rattle.bus.proofs.log.Runs.{then}
 use Rattle.channel.proofs.write_channel.Statement.{statement}
 use Rattle.channel.proofs.write_channel.Tie as tie
 

@@ -1,7 +1,7 @@
 -- `detection::write_detection` meets its contract: the detection bits, and the threshold.
 -- Assumes nothing.
 use borrow.Author.Needs.{needs}
-use Rattle.log.proofs.Runs.{then}
+use Rattle.bus.proofs.log.Runs.{then}
 use Rattle.detection.proofs.write_detection.Statement.{statement}
 use Rattle.detection.proofs.write_detection.Tie as tie
 

@@ -7,7 +7,7 @@ use denote.Ref.{now}
 use Rattle.params.specs.Errors.{or}
 use Rattle.refusals.specs.Modes.{modeOf}
 use Rattle.refusals.specs.Refusals.{flag}
-use Rattle.admit.proofs.Calls.{Decided, decided}
+use Rattle.bus.proofs.admit.Calls.{Decided, decided}
 use Rattle.operations.specs.Interrupts.{eventRefusal}
 use Rattle.operations.proofs.Counts.{looking-count}
 use Rattle.operations.proofs.Operations.{event-op}

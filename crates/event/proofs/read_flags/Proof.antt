@@ -4,7 +4,7 @@ use borrow.Author.Needs.{needs}
 use mathlib.Core.Path.{_≡_, refl}
 use Prim.Native.Nat.{ℕ, zero, suc, _-_, _≤_}
 use native.Mathlib.Omega.{arith}
-use Rattle.log.proofs.Runs.{then}
+use Rattle.bus.proofs.log.Runs.{then}
 use Rattle.operations.proofs.Counts.{lookingRecords}
 use Rattle.event.proofs.read_flags.Statement.{statement}
 use Rattle.event.proofs.read_flags.Tie as tie

@@ -3,7 +3,7 @@
 use borrow.Author.Needs.{needs}
 use mathlib.Core.Path.{_∙_}
 use native.Mathlib.Omega.{arith}
-use Rattle.log.proofs.Runs.{then}
+use Rattle.bus.proofs.log.Runs.{then}
 use Rattle.operations.proofs.Counts.{framing-count}
 use Rattle.framing.proofs.write_packet.Statement.{statement}
 use Rattle.framing.proofs.write_packet.Tie as tie

@@ -1,7 +1,7 @@
 -- `framing::write_preamble` meets its contract: two writes.
 -- Assumes nothing.
 use borrow.Author.Needs.{needs}
-use Rattle.log.proofs.Runs.{then}
+use Rattle.bus.proofs.log.Runs.{then}
 use Rattle.framing.proofs.write_preamble.Statement.{statement}
 use Rattle.framing.proofs.write_preamble.Tie as tie
 

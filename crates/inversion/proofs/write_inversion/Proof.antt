@@ -1,7 +1,7 @@
 -- `inversion::write_inversion` meets its contract: two writes.
 -- Assumes nothing.
 use borrow.Author.Needs.{needs}
-use Rattle.log.proofs.Runs.{then}
+use Rattle.bus.proofs.log.Runs.{then}
 use Rattle.inversion.proofs.write_inversion.Statement.{statement}
 use Rattle.inversion.proofs.write_inversion.Tie as tie
 

@@ -5,7 +5,7 @@ use mathlib.Core.Path.{refl}
 use native.Mathlib.Omega.{arith}
 use denote.Ref.{now}
 use Rattle.refusals.specs.Modes.{modeOf}
-use Rattle.admit.proofs.Calls.{Decided, decided}
+use Rattle.bus.proofs.admit.Calls.{Decided, decided}
 use Rattle.operations.proofs.Operations.{irq-op}
 use Rattle.irq.proofs.set_irq_params.Statement.{statement}
 use Rattle.irq.proofs.set_irq_params.Tie as tie

@@ -1,7 +1,7 @@
 -- `irq::write_irq_params` meets its contract: a write, a modification and a write, joined.
 -- Assumes nothing.
 use borrow.Author.Needs.{needs}
-use Rattle.log.proofs.Runs.{then}
+use Rattle.bus.proofs.log.Runs.{then}
 use Rattle.irq.proofs.write_irq_params.Statement.{statement}
 use Rattle.irq.proofs.write_irq_params.Tie as tie
 

@@ -6,7 +6,7 @@ use native.Mathlib.Omega.{arith}
 use denote.Ref.{now}
 use mir.Syntax.{w32}
 use mir.Facts.{toZ-ofZ}
-use Rattle.log.proofs.Runs.{then}
+use Rattle.bus.proofs.log.Runs.{then}
 use Rattle.operations.proofs.Counts.{packet-count}
 use Rattle.acceptance.proofs.Whole.{packet-clear}
 use Rattle.link_writes.proofs.write_framed.Statement.{statement}

@@ -4,7 +4,7 @@ use borrow.Author.Needs.{needs}
 use mathlib.Core.Path.{_∙_}
 use native.Mathlib.Omega.{arith}
 use denote.Ref.{now}
-use Rattle.log.proofs.Runs.{then}
+use Rattle.bus.proofs.log.Runs.{then}
 use Rattle.operations.proofs.Counts.{modulation-count}
 use Rattle.acceptance.proofs.Whole.{modulation-clear, symbol-ranges}
 use Rattle.link_writes.proofs.write_modulated.Statement.{statement}

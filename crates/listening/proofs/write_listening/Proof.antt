@@ -1,7 +1,7 @@
 -- `listening::write_listening` meets its contract: four writes.
 -- Assumes nothing.
 use borrow.Author.Needs.{needs}
-use Rattle.log.proofs.Runs.{then}
+use Rattle.bus.proofs.log.Runs.{then}
 use Rattle.listening.proofs.write_listening.Statement.{statement}
 use Rattle.listening.proofs.write_listening.Tie as tie
 

@@ -1,7 +1,7 @@
 -- `listening::write_window` meets its contract: the high bits into their field, and the low byte.
 -- Assumes nothing.
 use borrow.Author.Needs.{needs}
-use Rattle.log.proofs.Runs.{then}
+use Rattle.bus.proofs.log.Runs.{then}
 use Rattle.listening.proofs.write_window.Statement.{statement}
 use Rattle.listening.proofs.write_window.Tie as tie
 

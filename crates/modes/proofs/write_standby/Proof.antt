@@ -1,7 +1,7 @@
 -- `modes::write_standby` meets its contract: a write, and then the switch.
 -- Assumes nothing.
 use borrow.Author.Needs.{needs}
-use Rattle.log.proofs.Runs.{then}
+use Rattle.bus.proofs.log.Runs.{then}
 use Rattle.modes.proofs.write_standby.Statement.{statement}
 use Rattle.modes.proofs.write_standby.Tie as tie
 

@@ -3,7 +3,7 @@
 use borrow.Author.Needs.{needs}
 use native.Mathlib.Omega.{arith}
 use denote.Ref.{now}
-use Rattle.admit.proofs.Calls.{Decided, decided}
+use Rattle.bus.proofs.admit.Calls.{Decided, decided}
 use Rattle.operations.proofs.Operations.{modulation-op}
 use Rattle.modulation.proofs.set_modulation_params.Statement.{statement}
 use Rattle.modulation.proofs.set_modulation_params.Tie as tie

@@ -2,7 +2,7 @@
 -- Assumes nothing.
 use borrow.Author.Needs.{needs}
 use native.Mathlib.Omega.{arith}
-use Rattle.log.proofs.Runs.{then}
+use Rattle.bus.proofs.log.Runs.{then}
 use Rattle.modulation.proofs.write_modulation.Statement.{statement}
 use Rattle.modulation.proofs.write_modulation.Tie as tie
 

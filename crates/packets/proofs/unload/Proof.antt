@@ -1,7 +1,7 @@
 -- `packets::unload` meets its contract: a read, a write of what was read, a burst and a write, joined.
 -- Assumes nothing.
 use borrow.Author.Needs.{needs}
-use Rattle.log.proofs.Runs.{then}
+use Rattle.bus.proofs.log.Runs.{then}
 use Rattle.packets.proofs.unload.Statement.{statement}
 use Rattle.packets.proofs.unload.Tie as tie
 

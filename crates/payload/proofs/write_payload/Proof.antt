@@ -1,7 +1,7 @@
 -- `payload::write_payload` meets its contract: three writes to registers and one burst, joined.
 -- Assumes nothing.
 use borrow.Author.Needs.{needs}
-use Rattle.log.proofs.Runs.{then}
+use Rattle.bus.proofs.log.Runs.{then}
 use Rattle.payload.proofs.write_payload.Statement.{statement}
 use Rattle.payload.proofs.write_payload.Tie as tie
 

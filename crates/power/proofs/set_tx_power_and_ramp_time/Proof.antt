@@ -5,7 +5,7 @@ use native.Mathlib.Omega.{arith}
 use denote.Ref.{now}
 use mir.Syntax.{w32}
 use mir.ValLaws.{toZ-ofZ}
-use Rattle.admit.proofs.Calls.{Decided, decided}
+use Rattle.bus.proofs.admit.Calls.{Decided, decided}
 use Rattle.operations.proofs.Operations.{power-op}
 use Rattle.power.proofs.set_tx_power_and_ramp_time.Statement.{statement}
 use Rattle.power.proofs.set_tx_power_and_ramp_time.Tie as tie

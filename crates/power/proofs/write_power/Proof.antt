@@ -13,8 +13,8 @@ use mir.Val.{toZ, ofZ}
 use mir.ValLaws.{toZ-ofZ}
 use Rattle.sheets.specs.declared.Variant.{Variant}
 use Rattle.sheets.specs.declared.Variant.the-variants.{Sx1272, Sx1276}
-use Rattle.log.specs.Steps.{endAfter}
-use Rattle.log.proofs.Runs.{then}
+use Rattle.bus.specs.Steps.{endAfter}
+use Rattle.bus.proofs.log.Runs.{then}
 use Rattle.operations.specs.Power.{amplifier}
 use Rattle.operations.proofs.Counts.{powerRecords}
 use Rattle.power.proofs.write_power.Statement.{statement}

@@ -4,7 +4,7 @@ use borrow.Author.Needs.{needs}
 use mathlib.Core.Path.{_≡_, refl}
 use native.Mathlib.Omega.{arith}
 use denote.Ref.{now}
-use Rattle.admit.proofs.Calls.{Decided, decided}
+use Rattle.bus.proofs.admit.Calls.{Decided, decided}
 use Rattle.refusals.specs.Modes.{rxModeOf}
 use Rattle.operations.specs.Modes.{rxRefusal, rxWindow, rxOpMode}
 use Rattle.operations.proofs.Operations.{rx-op}

@@ -3,7 +3,7 @@
 use borrow.Author.Needs.{needs}
 use native.Mathlib.Omega.{arith}
 use denote.Ref.{now}
-use Rattle.admit.proofs.Calls.{Decided, decided}
+use Rattle.bus.proofs.admit.Calls.{Decided, decided}
 use Rattle.operations.proofs.Operations.{init-op}
 use Rattle.setup.proofs.init_lora.Statement.{statement}
 use Rattle.setup.proofs.init_lora.Tie as tie

@@ -5,7 +5,7 @@ use mathlib.Core.Path.{_≡_, _∙_}
 use Prim.Native.Nat.{_+_, _*_}
 use native.Mathlib.Omega.{arith}
 use denote.Ref.{now}
-use Rattle.log.proofs.Runs.{then}
+use Rattle.bus.proofs.log.Runs.{then}
 use Rattle.operations.proofs.Counts.{oscillatorRecords, oscillator-count}
 use Rattle.setup.proofs.write_init.Statement.{statement}
 use Rattle.setup.proofs.write_init.Tie as tie

@@ -9,8 +9,8 @@ use denote.Ref.{now}
 use lib.ListN.{length}
 use Rattle.sheets.specs.declared.Variant.{Variant}
 use Rattle.sheets.specs.declared.Variant.the-variants.{Sx1272, Sx1276}
-use Rattle.log.specs.Steps.{endAfter}
-use Rattle.admit.proofs.Calls.{Decided, decided}
+use Rattle.bus.specs.Steps.{endAfter}
+use Rattle.bus.proofs.admit.Calls.{Decided, decided}
 use Rattle.operations.specs.Packets.{measuring}
 use Rattle.operations.proofs.Counts.{measuringRecords, measuring-count}
 use Rattle.operations.proofs.Operations.{status-op}

@@ -2,7 +2,7 @@
 -- Assumes nothing.
 use borrow.Author.Needs.{needs}
 use denote.Ref.{now}
-use Rattle.log.proofs.Runs.{then}
+use Rattle.bus.proofs.log.Runs.{then}
 use Rattle.operations.specs.Packets.{tuned}
 use Rattle.signal.proofs.Known.{offset-range}
 use Rattle.signal.proofs.Signed16.{held}

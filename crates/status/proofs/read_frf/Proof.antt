@@ -1,7 +1,7 @@
 -- `status::read_frf` meets its contract: three reads, joined.
 -- Assumes nothing.
 use borrow.Author.Needs.{needs}
-use Rattle.log.proofs.Runs.{then}
+use Rattle.bus.proofs.log.Runs.{then}
 use Rattle.sheets.proofs.Frequency.{frf-lt}
 use Rattle.status.proofs.read_frf.Statement.{statement}
 use Rattle.status.proofs.read_frf.Tie as tie

@@ -7,7 +7,7 @@ use native.Mathlib.Omega.{arith}
 use Rattle.sheets.specs.declared.Variant.the-variants.{Sx1272}
 use Rattle.sheets.specs.Modem.{bandwidthCodes, bandwidthCode}
 use Rattle.sheets.proofs.Sweep.{equal}
-use Rattle.log.proofs.Runs.{then}
+use Rattle.bus.proofs.log.Runs.{then}
 use Rattle.sx1272.proofs.set_modulation_params.Statement.{statement}
 use Rattle.sx1272.proofs.set_modulation_params.Tie as tie
 

@@ -9,8 +9,8 @@ use mir.ValLaws.{toZ-ofZ}
 use Rattle.sheets.specs.declared.Variant.the-variants.{Sx1272}
 use Rattle.sheets.specs.Power.{clamped}
 use Rattle.sheets.specs.Registers.{RegPaConfig, RegPaDac}
-use Rattle.log.specs.Steps.{Done, Write}
-use Rattle.log.proofs.Runs.{then}
+use Rattle.bus.specs.Steps.{Done, Write}
+use Rattle.bus.proofs.log.Runs.{then}
 use Rattle.levels.specs.Ranges.{InRange}
 use Rattle.levels.proofs.Whole.{held}
 use Rattle.levels.proofs.Dac.{dac-in-range}

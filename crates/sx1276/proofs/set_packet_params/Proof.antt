@@ -1,7 +1,7 @@
 -- `sx1276::set_packet_params` meets its contract: each flag stands at its field's bit.
 -- Assumes nothing.
 use borrow.Author.Needs.{needs}
-use Rattle.log.proofs.Runs.{then}
+use Rattle.bus.proofs.log.Runs.{then}
 use Rattle.sx1276.proofs.set_packet_params.Statement.{statement}
 use Rattle.sx1276.proofs.set_packet_params.Tie as tie
 

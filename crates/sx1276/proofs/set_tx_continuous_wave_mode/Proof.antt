@@ -3,7 +3,7 @@
 use borrow.Author.Needs.{needs}
 use mathlib.Core.List.{[]}
 use native.Mathlib.Omega.{arith}
-use Rattle.log.proofs.Runs.{then}
+use Rattle.bus.proofs.log.Runs.{then}
 use Rattle.sx1276.proofs.set_tx_continuous_wave_mode.Statement.{statement}
 use Rattle.sx1276.proofs.set_tx_continuous_wave_mode.Tie as tie
 

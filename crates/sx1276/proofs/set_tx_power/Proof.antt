@@ -7,7 +7,7 @@ use mir.Val.{toZ, ofZ}
 use mir.ValLaws.{toZ-ofZ}
 use Rattle.sheets.specs.declared.Variant.the-variants.{Sx1276}
 use Rattle.sheets.specs.Power.{clamped}
-use Rattle.log.proofs.Runs.{then}
+use Rattle.bus.proofs.log.Runs.{then}
 use Rattle.levels.specs.Ranges.{InRange}
 use Rattle.levels.proofs.Whole.{held}
 use Rattle.levels.proofs.Dac.{dac-in-range}

@@ -12,7 +12,7 @@ use denote.Ref.{now}
 use Rattle.sheets.specs.declared.Variant.{Variant}
 use Rattle.sheets.specs.declared.Variant.the-variants.{Sx1272, Sx1276}
 use Rattle.sheets.specs.Reader.{readerOrder}
-use Rattle.log.specs.Steps.{imageAfter}
+use Rattle.bus.specs.Steps.{imageAfter}
 use Rattle.operations.specs.Programming.{programming}
 use Rattle.operations.proofs.Counts.{programRecords}
 use Rattle.trial.specs.Tests.{alike, keeps}
