@@ -1,4 +1,5 @@
 // What the outputs of each variant do with a power in dBm: the power that they take, and their registers then.
+pub mod levels;
 pub mod sx1272;
 pub mod sx1276;
 

@@ -1,10 +1,10 @@
 // The SX1272's outputs, PA_BOOST and RFO.
 ghost use mathlib.Core.Path.{_≡_};
 ghost use Rattle.sheets.specs.Power.{clamped, paConfig};
-ghost use Rattle.levels.specs.Ranges.{InRange};
+ghost use Rattle.outputs.specs.Ranges.{InRange};
 use crate::PA_BOOST;
-use levels::clamp;
-use levels::level;
+use crate::levels::clamp;
+use crate::levels::level;
 use sheets::Variant;
 
 // In dBm: PA_BOOST has 2 to 20, RFO -1 to 14.

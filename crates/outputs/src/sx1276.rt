@@ -1,10 +1,10 @@
 // The SX1276's outputs, PA_BOOST and RFO.
 ghost use mathlib.Core.Path.{_≡_};
 ghost use Rattle.sheets.specs.Power.{clamped, ocp, paConfig};
-ghost use Rattle.levels.specs.Ranges.{InRange};
+ghost use Rattle.outputs.specs.Ranges.{InRange};
 use crate::PA_BOOST;
-use levels::clamp;
-use levels::level;
+use crate::levels::clamp;
+use crate::levels::level;
 use sheets::Variant;
 
 // With over current protection on.

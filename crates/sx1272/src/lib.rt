@@ -8,7 +8,7 @@ ghost use Rattle.operations.specs.Modem.{modem, framing};
 ghost use Rattle.operations.specs.Power.{amplifier};
 use bus::modify_register;
 use bus::write_register;
-use levels::pa_dac;
+use outputs::levels::pa_dac;
 use outputs::sx1272::clamped_power;
 use outputs::sx1272::pa_config;
 use params::radio_kind_params::Register;

@@ -10,7 +10,7 @@ ghost use Rattle.operations.specs.Modes.{carrierTest};
 use bus::modify_register;
 use bus::pins::enable_rf_switch_rx;
 use bus::write_register;
-use levels::pa_dac;
+use outputs::levels::pa_dac;
 use outputs::sx1276::clamped_power;
 use outputs::sx1276::ocp;
 use outputs::sx1276::pa_config;

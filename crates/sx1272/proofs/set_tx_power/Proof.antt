@@ -11,10 +11,10 @@ use Rattle.sheets.specs.Power.{clamped}
 use Rattle.sheets.specs.Registers.{RegPaConfig, RegPaDac}
 use Rattle.bus.specs.Steps.{Done, Write}
 use Rattle.bus.proofs.log.Runs.{then}
-use Rattle.levels.specs.Ranges.{InRange}
-use Rattle.levels.proofs.Whole.{held}
-use Rattle.levels.proofs.Dac.{dac-in-range}
-use Rattle.levels.proofs.Clamped.{in-range, dac-of, config-of}
+use Rattle.outputs.specs.Ranges.{InRange}
+use Rattle.outputs.proofs.levels.Whole.{held}
+use Rattle.outputs.proofs.levels.Dac.{dac-in-range}
+use Rattle.outputs.proofs.levels.Clamped.{in-range, dac-of, config-of}
 use Rattle.sx1272.proofs.set_tx_power.Statement.{statement}
 use Rattle.sx1272.proofs.set_tx_power.Tie as tie
 

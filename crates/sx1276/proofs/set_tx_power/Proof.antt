@@ -8,10 +8,10 @@ use mir.ValLaws.{toZ-ofZ}
 use Rattle.sheets.specs.declared.Variant.the-variants.{Sx1276}
 use Rattle.sheets.specs.Power.{clamped}
 use Rattle.bus.proofs.log.Runs.{then}
-use Rattle.levels.specs.Ranges.{InRange}
-use Rattle.levels.proofs.Whole.{held}
-use Rattle.levels.proofs.Dac.{dac-in-range}
-use Rattle.levels.proofs.Clamped.{in-range, dac-of, ocp-of, config-of}
+use Rattle.outputs.specs.Ranges.{InRange}
+use Rattle.outputs.proofs.levels.Whole.{held}
+use Rattle.outputs.proofs.levels.Dac.{dac-in-range}
+use Rattle.outputs.proofs.levels.Clamped.{in-range, dac-of, ocp-of, config-of}
 use Rattle.sx1276.proofs.set_tx_power.Statement.{statement}
 use Rattle.sx1276.proofs.set_tx_power.Tie as tie
 

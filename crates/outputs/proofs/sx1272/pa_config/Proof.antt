@@ -13,8 +13,8 @@ use mir.Val.{toZ, ofZ}
 use mir.ValLaws.{toZ-ofZ}
 use Rattle.sheets.specs.declared.Variant.the-variants.{Sx1272}
 use Rattle.sheets.specs.Power.{clamped, paConfig}
-use Rattle.levels.specs.Ranges.{level, InRange}
-use Rattle.levels.proofs.Whole.{among}
+use Rattle.outputs.specs.Ranges.{level, InRange}
+use Rattle.outputs.proofs.levels.Whole.{among}
 use Rattle.outputs.proofs.sx1272.pa_config.Statement.{statement}
 use Rattle.outputs.proofs.sx1272.pa_config.Tie as tie
 

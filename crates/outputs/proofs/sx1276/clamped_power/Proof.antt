@@ -4,7 +4,7 @@ use borrow.Author.Needs.{needs}
 use mir.Syntax.{w32}
 use mir.ValLaws.{toZ-ofZ}
 use Rattle.sheets.specs.Power.{clamped}
-use Rattle.levels.proofs.Whole.{held}
+use Rattle.outputs.proofs.levels.Whole.{held}
 use Rattle.outputs.proofs.sx1276.clamped_power.Statement.{statement}
 use Rattle.outputs.proofs.sx1276.clamped_power.Tie as tie
 

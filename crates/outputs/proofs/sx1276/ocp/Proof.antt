@@ -10,8 +10,8 @@ use mir.Val.{toZ, ofZ}
 use mir.ValLaws.{toZ-ofZ}
 use Rattle.sheets.specs.declared.Variant.the-variants.{Sx1276}
 use Rattle.sheets.specs.Power.{clamped, ocp}
-use Rattle.levels.specs.Ranges.{InRange}
-use Rattle.levels.proofs.Whole.{among}
+use Rattle.outputs.specs.Ranges.{InRange}
+use Rattle.outputs.proofs.levels.Whole.{among}
 use Rattle.outputs.proofs.sx1276.ocp.Statement.{statement}
 use Rattle.outputs.proofs.sx1276.ocp.Tie as tie
 
