@@ -7,6 +7,7 @@ use bus::admit::admit;
 use params::answers::Answer;
 use params::mod_params::Verdict;
 use sheets::Variant;
+use variants::sx1276;
 
 pub fn set_tx_continuous_wave_mode(
     image: &mut [u8],

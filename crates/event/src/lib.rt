@@ -18,9 +18,9 @@ use outcome::irq_answer;
 use params::answers::IrqAnswer;
 use params::mod_params::Verdict;
 use params::radio_kind_params::Register;
-use records::event_records;
 use refusals::codes;
 use refusals::mode_codes::radio_mode;
+use variants::records::event_records;
 
 // The flags as they were before they are cleared.
 fn read_flags(image: &mut [u8], log: &mut [u8], at: usize, clear: u8) -> u8

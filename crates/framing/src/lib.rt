@@ -15,8 +15,10 @@ use params::answers::Answer;
 use params::mod_params::PacketParams;
 use params::mod_params::Verdict;
 use params::radio_kind_params::Register;
-use records::packet_records;
 use sheets::Variant;
+use variants::records::packet_records;
+use variants::sx1272;
+use variants::sx1276;
 
 fn write_preamble(image: &mut [u8], log: &mut [u8], at: usize, preamble_length: u16) -> usize
     requires { ⌜ (at + 6 ≤ length (now log)) × (length (now image) ≡ 128) ⌝ }

@@ -14,9 +14,11 @@ use detection::write_detection;
 use params::answers::Answer;
 use params::mod_params::ModulationParams;
 use params::mod_params::Verdict;
-use records::modulation_records;
 use refusals::codes;
 use sheets::Variant;
+use variants::records::modulation_records;
+use variants::sx1272;
+use variants::sx1276;
 
 // Each variant has its own modem registers.
 fn write_modem(

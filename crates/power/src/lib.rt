@@ -15,9 +15,11 @@ use params::board::Board;
 use params::mod_params::Verdict;
 use params::radio_kind_params::Register;
 use ramps::ramp_value;
-use records::power_records;
 use refusals::codes;
 use sheets::Variant;
+use variants::records::power_records;
+use variants::sx1272;
+use variants::sx1276;
 
 fn set_tx_power(
     image: &mut [u8],

@@ -10,7 +10,7 @@ use params::answers::Answer;
 use params::board::Board;
 use params::mod_params::Link;
 use params::mod_params::Verdict;
-use records::program_records;
+use variants::records::program_records;
 
 pub fn program(image: &mut [u8], log: &mut [u8], used: usize, board: Board, link: Link) -> Answer
     ensures { λ r. ⌜ Meets (programLink board link (now (image .entry)) (now (log .entry)) used) (tellsDone r) (usedDone r) (now (image .exit)) [] (now (log .exit)) [] ⌝ }

@@ -5,7 +5,7 @@ ghost use Rattle.params.specs.Values as value;
 ghost use Rattle.operations.specs.Power.{rampCode};
 use params::values::RampTime;
 use sheets::Variant;
-use variants::ramp_bit;
+use variants::registers::ramp_bit;
 
 // Fast before a transmission, slow when a link is programmed.
 fn ramp_time(is_tx_prep: u8) -> RampTime

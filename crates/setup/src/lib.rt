@@ -16,10 +16,10 @@ use params::answers::Answer;
 use params::board::Board;
 use params::mod_params::Verdict;
 use params::radio_kind_params::Register;
-use records::init_records;
 use refusals::codes;
 use sheets::Variant;
-use variants::reg_tcxo;
+use variants::records::init_records;
+use variants::registers::reg_tcxo;
 
 const LORA_MAC_PUBLIC_SYNCWORD: u8 = 0x34;
 

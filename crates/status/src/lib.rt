@@ -17,9 +17,9 @@ use params::mod_params::PacketStatus;
 use params::mod_params::Verdict;
 use params::radio_kind_params::Register;
 use params::units::Steps;
-use records::status_records;
 use sheets::Variant;
 use signal::offsets;
+use variants::records::status_records;
 
 fn read_frf(image: &[u8], log: &mut [u8], at: usize) -> Steps
     requires { ⌜ (at + 9 ≤ length (now log)) × (length (now image) ≡ 128) ⌝ }

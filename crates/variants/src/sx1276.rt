@@ -1,0 +1,97 @@
+// What the SX1276 does in its own way: modulation, framing, transmit power, and a carrier without modulation.
+ghost use mathlib.Core.Path.{_≡_};
+ghost use Prim.Native.Nat.{_+_, _≤_};
+ghost use lib.ListN.{length};
+ghost use Rattle.sheets.specs.Modem.{bandwidthCode};
+ghost use Rattle.bus.specs.Steps.{Done};
+ghost use Rattle.operations.specs.Modem.{modem, framing};
+ghost use Rattle.operations.specs.Power.{amplifier};
+ghost use Rattle.operations.specs.Modes.{carrierTest};
+use crate::registers::Sx1276;
+use bus::modify_register;
+use bus::pins::enable_rf_switch_rx;
+use bus::write_register;
+use outputs::levels::pa_dac;
+use outputs::sx1276::clamped_power;
+use outputs::sx1276::ocp;
+use outputs::sx1276::pa_config;
+use params::radio_kind_params::Register;
+use sheets::Variant;
+
+// A field at a time, as the Rust does it; the optimize flag with AgcAutoOn cleared.
+pub fn set_modulation_params(
+    image: &mut [u8],
+    log: &mut [u8],
+    at: usize,
+    sf: u8,
+    bw: u8,
+    cr: u8,
+    low_data_rate_optimize: u8,
+) -> usize
+    requires { ⌜ (at + 24 ≤ length (now log)) × (length (now image) ≡ 128) ⌝ }
+    requires { ⌜ (sf ≤ 12) × (bw ≤ 9) × (cr ≤ 4) × («low_data_rate_optimize» ≤ 1) ⌝ }
+    ensures { λ r. ⌜ Done (modem Variant.Sx1276 sf (bandwidthCode Variant.Sx1276 bw) cr «low_data_rate_optimize») (now (image .entry)) (now (log .entry)) at r (now (image .exit)) (now (log .exit)) ⌝ }
+{
+    let bw_val = Variant::Sx1276.bandwidth_code(bw);
+    let sf_bits = sf * 16;
+    let at = modify_register(image, log, at, Register::RegModemConfig2, 0x0f, sf_bits);
+    let bw_bits = bw_val * 16;
+    let at = modify_register(image, log, at, Register::RegModemConfig1, 0x0f, bw_bits);
+    let cr_bits = cr * 2;
+    let at = modify_register(image, log, at, Register::RegModemConfig1, 0xf1, cr_bits);
+    let ldro_bit = low_data_rate_optimize * 8;
+    modify_register(image, log, at, Register::RegModemConfig3, 0xf3, ldro_bit)
+}
+
+pub fn set_packet_params(
+    image: &mut [u8],
+    log: &mut [u8],
+    at: usize,
+    implicit_header: u8,
+    crc_on: u8,
+) -> usize
+    requires { ⌜ (at + 12 ≤ length (now log)) × (length (now image) ≡ 128) ⌝ }
+    requires { ⌜ («implicit_header» ≤ 1) × («crc_on» ≤ 1) ⌝ }
+    ensures { λ r. ⌜ Done (framing Variant.Sx1276 «implicit_header» «crc_on») (now (image .entry)) (now (log .entry)) at r (now (image .exit)) (now (log .exit)) ⌝ }
+{
+    let at = modify_register(
+        image,
+        log,
+        at,
+        Register::RegModemConfig1,
+        0xfe,
+        implicit_header,
+    );
+    let crc_bit = crc_on * 4;
+    modify_register(image, log, at, Register::RegModemConfig2, 0xfb, crc_bit)
+}
+
+pub fn set_tx_power(
+    image: &mut [u8],
+    log: &mut [u8],
+    at: usize,
+    p_out: i32,
+    tx_boost: bool,
+) -> usize
+    requires { ⌜ (at + 9 ≤ length (now log)) × (length (now image) ≡ 128) ⌝ }
+    ensures { λ r. ⌜ Done (amplifier Variant.Sx1276 «tx_boost» «p_out») (now (image .entry)) (now (log .entry)) at r (now (image .exit)) (now (log .exit)) ⌝ }
+{
+    let txp = clamped_power(p_out, tx_boost);
+    let dac = pa_dac(txp, tx_boost);
+    let trim = ocp(txp, tx_boost);
+    let config = pa_config(txp, tx_boost);
+    let at = write_register(image, log, at, Sx1276::REG_PA_DAC, dac);
+    let at = write_register(image, log, at, Register::RegOcp, trim);
+    write_register(image, log, at, Register::RegPaConfig, config)
+}
+
+// The Rust turns the switch to receive, and transmits by PA_BOOST whatever the board.
+pub fn set_tx_continuous_wave_mode(image: &mut [u8], log: &mut [u8], at: usize) -> usize
+    requires { ⌜ (at + 18 ≤ length (now log)) × (length (now image) ≡ 128) ⌝ }
+    ensures { λ r. ⌜ Done carrierTest (now (image .entry)) (now (log .entry)) at r (now (image .exit)) (now (log .exit)) ⌝ }
+{
+    let at = enable_rf_switch_rx(log, at);
+    let at = modify_register(image, log, at, Register::RegPaConfig, 0x7f, 0x80);
+    let at = write_register(image, log, at, Register::RegOpMode, 0xc3);
+    modify_register(image, log, at, Register::RegModemConfig2, 0xf7, 0x08)
+}
