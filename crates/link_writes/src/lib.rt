@@ -8,7 +8,6 @@ ghost use Rattle.bus.specs.Steps.{Done};
 ghost use Rattle.operations.specs.Power.{power};
 ghost use Rattle.operations.specs.Programming.{linkModulation, linkPacket, programming};
 ghost use Rattle.operations.proofs.Counts.{modulationRecords, packetRecords, powerRecords, programRecords};
-use channel::write_channel;
 use framing::write_packet;
 use judgements::low_data_rate_optimize;
 use modulation::write_modulation;
@@ -17,8 +16,9 @@ use params::mod_params::Link;
 use params::mod_params::ModulationParams;
 use params::mod_params::PacketParams;
 use params::mod_params::Verdict;
-use power::write_power;
-use setup::write_init;
+use setup::channel::write_channel;
+use setup::init::write_init;
+use setup::power::write_power;
 
 fn write_framed(image: &mut [u8], log: &mut [u8], at: usize, board: Board, link: Link) -> usize
     requires { ⌜ (at + 3 * (packetRecords (board .variant) + powerRecords (board .variant)) ≤ length (now log)) × (length (now image) ≡ 128) ⌝ }

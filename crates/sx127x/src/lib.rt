@@ -1,7 +1,5 @@
 // The driver: every operation of the SX1272 and the SX1276 under one name, as the Rust's mod.rs has them.
-pub use bases::set_tx_rx_buffer_base_address;
 pub use carrier::set_tx_continuous_wave_mode;
-pub use channel::set_channel;
 pub use detect::do_cad;
 pub use event::process_irq_event;
 pub use framing::set_packet_params;
@@ -13,9 +11,11 @@ pub use packets::get_rx_payload;
 pub use parameters::create_modulation_params;
 pub use parameters::create_packet_params;
 pub use payload::set_payload;
-pub use power::set_tx_power_and_ramp_time;
 pub use receive::do_rx;
-pub use setup::init_lora;
+pub use setup::bases::set_tx_rx_buffer_base_address;
+pub use setup::channel::set_channel;
+pub use setup::init::init_lora;
+pub use setup::power::set_tx_power_and_ramp_time;
 pub use sleep::reset;
 pub use sleep::set_sleep;
 pub use status::get_rx_packet_status;
