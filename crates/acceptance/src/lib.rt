@@ -2,6 +2,7 @@
 ghost use mathlib.Core.Path.{_≡_};
 ghost use Rattle.refusals.specs.Refusals.{linkRefusal};
 ghost use Rattle.acceptance.specs.Parts.{linkNamed, linkHad};
+use modem::judgements;
 use params::mod_params::Link;
 use params::mod_params::Verdict;
 use refusals::availability;
