@@ -1,4 +1,4 @@
-// Standby and transmit: `set_standby` and `do_tx`.
+// Modes: standby and transmission; sleep and reset; the carrier.
 ghost use mathlib.Core.Path.{_≡_};
 ghost use mathlib.Core.List.{[]};
 ghost use Prim.Native.Nat.{_+_, _≤_};
@@ -15,6 +15,9 @@ use params::answers::Answer;
 use params::mod_params::Verdict;
 use params::radio_kind_params::Register;
 use params::values::LoRaMode;
+
+pub mod carrier;
+pub mod sleep;
 
 fn write_standby(image: &mut [u8], log: &mut [u8], at: usize) -> usize
     requires { ⌜ (at + 6 ≤ length (now log)) × (length (now image) ≡ 128) ⌝ }

@@ -1,5 +1,4 @@
 // The driver: every operation of the SX1272 and the SX1276 under one name, as the Rust's mod.rs has them.
-pub use carrier::set_tx_continuous_wave_mode;
 pub use detect::do_cad;
 pub use event::process_irq_event;
 pub use irq::set_irq_params;
@@ -7,8 +6,11 @@ pub use modem::framing::set_packet_params;
 pub use modem::modulation::set_modulation_params;
 pub use modem::parameters::create_modulation_params;
 pub use modem::parameters::create_packet_params;
+pub use modes::carrier::set_tx_continuous_wave_mode;
 pub use modes::do_tx;
 pub use modes::set_standby;
+pub use modes::sleep::reset;
+pub use modes::sleep::set_sleep;
 pub use packets::get_rx_payload;
 pub use payload::set_payload;
 pub use receive::do_rx;
@@ -16,6 +18,4 @@ pub use setup::bases::set_tx_rx_buffer_base_address;
 pub use setup::channel::set_channel;
 pub use setup::init::init_lora;
 pub use setup::power::set_tx_power_and_ramp_time;
-pub use sleep::reset;
-pub use sleep::set_sleep;
 pub use status::get_rx_packet_status;

@@ -1,11 +1,11 @@
--- `sleep::write_reset` meets its contract: the pin, and then sleep.
+-- `modes::sleep::write_reset` meets its contract: the pin, and then sleep.
 -- Assumes nothing.
 use borrow.Author.Needs.{needs}
 use mathlib.Core.List.{[]}
 use native.Mathlib.Omega.{arith}
 use Rattle.bus.proofs.log.Runs.{then}
-use Rattle.sleep.proofs.write_reset.Statement.{statement}
-use Rattle.sleep.proofs.write_reset.Tie as tie
+use Rattle.modes.proofs.sleep.write_reset.Statement.{statement}
+use Rattle.modes.proofs.sleep.write_reset.Tie as tie
 
 write-sleeping-requires : tie.Need-write-sleeping-requires
 write-sleeping-requires c κs = omega (arith, c .before .before .before .before .reset .ensures [] .ends)

@@ -1,4 +1,4 @@
--- `carrier::set_tx_continuous_wave_mode` meets its contract: the verdict decides its outcome, and a clear one gives the room that the steps ask.
+-- `modes::carrier::set_tx_continuous_wave_mode` meets its contract: the verdict decides its outcome, and a clear one gives the room that the steps ask.
 -- Assumes nothing.
 use borrow.Author.Needs.{needs}
 use mathlib.Core.Path.{refl}
@@ -6,8 +6,8 @@ use native.Mathlib.Omega.{arith}
 use denote.Ref.{now}
 use Rattle.bus.proofs.admit.Calls.{Decided, decided}
 use Rattle.operations.proofs.Operations.{carrier-op}
-use Rattle.carrier.proofs.set_tx_continuous_wave_mode.Statement.{statement}
-use Rattle.carrier.proofs.set_tx_continuous_wave_mode.Tie as tie
+use Rattle.modes.proofs.carrier.set_tx_continuous_wave_mode.Statement.{statement}
+use Rattle.modes.proofs.carrier.set_tx_continuous_wave_mode.Tie as tie
 
 decision : (c : tie.After-admit) → let a = c .before .before .before .before .before .before .args in Decided (carrier-op (a .variant)) (now (a .image)) (now (a .log)) (a .used) (c .admit .result)
 decision c = let a = c .before .before .before .before .before .before .args in decided (carrier-op (a .variant)) (now (a .image)) (now (a .log)) (a .used) (c .before .before .before .carrier .ensures) refl (c .admit .ensures)

@@ -1,11 +1,11 @@
--- `sleep::write_sleeping` meets its contract: the switch, and then the sleep write.
+-- `modes::sleep::write_sleeping` meets its contract: the switch, and then the sleep write.
 -- Assumes nothing.
 use borrow.Author.Needs.{needs}
 use mathlib.Core.List.{[]}
 use native.Mathlib.Omega.{arith}
 use Rattle.bus.proofs.log.Runs.{then}
-use Rattle.sleep.proofs.write_sleeping.Statement.{statement}
-use Rattle.sleep.proofs.write_sleeping.Tie as tie
+use Rattle.modes.proofs.sleep.write_sleeping.Statement.{statement}
+use Rattle.modes.proofs.sleep.write_sleeping.Tie as tie
 
 write-sleep-requires : tie.Need-write-sleep-requires
 write-sleep-requires c κs = omega (arith, c .before .before .before .before .before .disable-rf-switch .ensures [] .ends)

@@ -1,4 +1,4 @@
--- `sleep::reset` meets its contract: the verdict decides its outcome, and a clear one gives the room that the steps ask.
+-- `modes::sleep::reset` meets its contract: the verdict decides its outcome, and a clear one gives the room that the steps ask.
 -- Assumes nothing.
 use borrow.Author.Needs.{needs}
 use mathlib.Core.Path.{refl}
@@ -6,8 +6,8 @@ use native.Mathlib.Omega.{arith}
 use denote.Ref.{now}
 use Rattle.bus.proofs.admit.Calls.{Decided, decided}
 use Rattle.operations.proofs.Operations.{reset-op}
-use Rattle.sleep.proofs.reset.Statement.{statement}
-use Rattle.sleep.proofs.reset.Tie as tie
+use Rattle.modes.proofs.sleep.reset.Statement.{statement}
+use Rattle.modes.proofs.sleep.reset.Tie as tie
 
 decision : (c : tie.After-admit) → let a = c .before .before .before .before .before .args in Decided reset-op (now (a .image)) (now (a .log)) (a .used) (c .admit .result)
 decision c = let a = c .before .before .before .before .before .args in decided reset-op (now (a .image)) (now (a .log)) (a .used) refl refl (c .admit .ensures)
