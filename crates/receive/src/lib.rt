@@ -1,4 +1,4 @@
-// Listening for a packet: `do_rx`.
+// Listening for a packet: `do_rx`, and channel activity detection, `do_cad`.
 ghost use mathlib.Core.Path.{_≡_};
 ghost use mathlib.Core.List.{[]};
 ghost use Prim.Native.Nat.{_+_, _≤_};
@@ -8,16 +8,19 @@ ghost use Rattle.params.specs.Answers.{tellsDone, usedDone};
 ghost use Rattle.bus.specs.Steps.{Done};
 ghost use Rattle.bus.specs.Call.{Meets};
 ghost use Rattle.operations.specs.Modes.{reception, rxRefusal, rxWindow, rxOpMode, doRx};
+use crate::listening::write_listening;
+use crate::listening::write_window;
 use bus::admit::admit;
 use bus::pins::enable_rf_switch_rx;
-use listening::write_listening;
-use listening::write_window;
 use params::answers::Answer;
 use params::mod_params::RadioError;
 use params::mod_params::RxMode;
 use params::mod_params::Verdict;
 use refusals::mode_codes::RxModeCode;
 use refusals::mode_codes::rx_mode;
+
+pub mod detect;
+pub mod listening;
 
 fn write_rx(
     image: &mut [u8],

@@ -1,5 +1,4 @@
 // The driver: every operation of the SX1272 and the SX1276 under one name, as the Rust's mod.rs has them.
-pub use detect::do_cad;
 pub use event::process_irq_event;
 pub use irq::set_irq_params;
 pub use modem::framing::set_packet_params;
@@ -13,6 +12,7 @@ pub use modes::sleep::reset;
 pub use modes::sleep::set_sleep;
 pub use packets::get_rx_payload;
 pub use payload::set_payload;
+pub use receive::detect::do_cad;
 pub use receive::do_rx;
 pub use setup::bases::set_tx_rx_buffer_base_address;
 pub use setup::channel::set_channel;

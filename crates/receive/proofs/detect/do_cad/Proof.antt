@@ -1,4 +1,4 @@
--- `detect::do_cad` meets its contract: the verdict decides its outcome, and a clear one gives the room that the steps ask.
+-- `receive::detect::do_cad` meets its contract: the verdict decides its outcome, and a clear one gives the room that the steps ask.
 -- Assumes nothing.
 use borrow.Author.Needs.{needs}
 use mathlib.Core.Path.{refl}
@@ -6,8 +6,8 @@ use native.Mathlib.Omega.{arith}
 use denote.Ref.{now}
 use Rattle.bus.proofs.admit.Calls.{Decided, decided}
 use Rattle.operations.proofs.Operations.{cad-op}
-use Rattle.detect.proofs.do_cad.Statement.{statement}
-use Rattle.detect.proofs.do_cad.Tie as tie
+use Rattle.receive.proofs.detect.do_cad.Statement.{statement}
+use Rattle.receive.proofs.detect.do_cad.Tie as tie
 
 decision : (c : tie.After-admit) → let a = c .before .before .before .before .before .args in Decided (cad-op (a .rx-boost)) (now (a .image)) (now (a .log)) (a .used) (c .admit .result)
 decision c = let a = c .before .before .before .before .before .args in decided (cad-op (a .rx-boost)) (now (a .image)) (now (a .log)) (a .used) refl refl (c .admit .ensures)

@@ -1,9 +1,9 @@
--- `listening::write_window` meets its contract: the high bits into their field, and the low byte.
+-- `receive::listening::write_window` meets its contract: the high bits into their field, and the low byte.
 -- Assumes nothing.
 use borrow.Author.Needs.{needs}
 use Rattle.bus.proofs.log.Runs.{then}
-use Rattle.listening.proofs.write_window.Statement.{statement}
-use Rattle.listening.proofs.write_window.Tie as tie
+use Rattle.receive.proofs.listening.write_window.Statement.{statement}
+use Rattle.receive.proofs.listening.write_window.Tie as tie
 
 returns : tie.Need-returns
 returns c =

@@ -1,9 +1,9 @@
--- `listening::write_listening` meets its contract: four writes.
+-- `receive::listening::write_listening` meets its contract: four writes.
 -- Assumes nothing.
 use borrow.Author.Needs.{needs}
 use Rattle.bus.proofs.log.Runs.{then}
-use Rattle.listening.proofs.write_listening.Statement.{statement}
-use Rattle.listening.proofs.write_listening.Tie as tie
+use Rattle.receive.proofs.listening.write_listening.Statement.{statement}
+use Rattle.receive.proofs.listening.write_listening.Tie as tie
 
 returns : tie.Need-returns
 returns c =

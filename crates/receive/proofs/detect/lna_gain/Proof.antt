@@ -1,8 +1,8 @@
--- `detect::lna_gain` meets its contract: each way is a case of the definition.
+-- `receive::detect::lna_gain` meets its contract: each way is a case of the definition.
 -- Assumes nothing.
 use borrow.Author.Needs.{needs}
-use Rattle.detect.proofs.lna_gain.Statement.{statement}
-use Rattle.detect.proofs.lna_gain.Tie as tie
+use Rattle.receive.proofs.detect.lna_gain.Statement.{statement}
+use Rattle.receive.proofs.detect.lna_gain.Tie as tie
 
 returns : tie.Need-returns
 returns c = rw (c .before .if1 .taken) (c .boosted-value .ensures)

@@ -4,9 +4,9 @@ ghost use Prim.Native.Nat.{_+_, _≤_};
 ghost use lib.ListN.{length};
 ghost use Rattle.bus.specs.Steps.{Done};
 ghost use Rattle.operations.specs.Modes.{waiting, listening};
+use crate::detect::lna_gain;
 use bus::modify_register;
 use bus::write_register;
-use detect::lna_gain;
 use params::radio_kind_params::Register;
 
 // The Rust's `set_lora_symbol_num_timeout`: how many symbols a receive waits for a preamble.

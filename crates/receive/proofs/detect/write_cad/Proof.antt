@@ -1,11 +1,11 @@
--- `detect::write_cad` meets its contract: the switch, and then two writes.
+-- `receive::detect::write_cad` meets its contract: the switch, and then two writes.
 -- Assumes nothing.
 use borrow.Author.Needs.{needs}
 use mathlib.Core.List.{[]}
 use native.Mathlib.Omega.{arith}
 use Rattle.bus.proofs.log.Runs.{then}
-use Rattle.detect.proofs.write_cad.Statement.{statement}
-use Rattle.detect.proofs.write_cad.Tie as tie
+use Rattle.receive.proofs.detect.write_cad.Statement.{statement}
+use Rattle.receive.proofs.detect.write_cad.Tie as tie
 
 write-register-requires : tie.Need-write-register-requires
 write-register-requires c κs = omega (arith, c .before .before .before .before .before .enable-rf-switch-rx .ensures [] .ends)
