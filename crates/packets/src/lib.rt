@@ -1,4 +1,4 @@
-// A packet that was received: `get_rx_payload`.
+// Packets: a payload sent or received, and its signal.
 ghost use mathlib.Core.Path.{_≡_};
 ghost use Prim.Native.Nat.{_+_, _≤_};
 ghost use lib.ListN.{length};
@@ -15,6 +15,9 @@ use params::answers::PayloadAnswer;
 use params::mod_params::RadioError;
 use params::mod_params::Verdict;
 use params::radio_kind_params::Register;
+
+pub mod payload;
+pub mod status;
 
 // What follows the read of the packet's length; the FIFO is left pointing at its start.
 fn unload(

@@ -1,9 +1,9 @@
--- `payload::write_payload` meets its contract: three writes to registers and one burst, joined.
+-- `packets::payload::write_payload` meets its contract: three writes to registers and one burst, joined.
 -- Assumes nothing.
 use borrow.Author.Needs.{needs}
 use Rattle.bus.proofs.log.Runs.{then}
-use Rattle.payload.proofs.write_payload.Statement.{statement}
-use Rattle.payload.proofs.write_payload.Tie as tie
+use Rattle.packets.proofs.payload.write_payload.Statement.{statement}
+use Rattle.packets.proofs.payload.write_payload.Tie as tie
 
 returns : tie.Need-returns
 returns c =

@@ -1,4 +1,4 @@
--- `status::rssi_offset` meets its contract: on the SX1272 any count gives the offset, on the SX1276 the one that was read.
+-- `packets::status::rssi_offset` meets its contract: on the SX1272 any count gives the offset, on the SX1276 the one that was read.
 -- Assumes nothing.
 use borrow.Author.Needs.{needs}
 use mathlib.Core.Path.{_≡_, refl, _∙_}
@@ -8,8 +8,8 @@ use Rattle.sheets.specs.declared.Variant.{Variant}
 use Rattle.sheets.specs.declared.Variant.the-variants.{Sx1272}
 use Rattle.sheets.specs.Signal.{offset}
 use Rattle.signal.proofs.Signed16.{held}
-use Rattle.status.proofs.rssi_offset.Statement.{statement}
-use Rattle.status.proofs.rssi_offset.Tie as tie
+use Rattle.packets.proofs.status.rssi_offset.Statement.{statement}
+use Rattle.packets.proofs.status.rssi_offset.Tie as tie
 
 one-port : (v : Variant) (m n : ℕ) → v ≡ Sx1272 → offset v m ≡ offset v n
 unfolding offset

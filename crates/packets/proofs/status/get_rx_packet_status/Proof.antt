@@ -1,4 +1,4 @@
--- `status::get_rx_packet_status` meets its contract: the verdict decides its outcome, and a clear one gives the room that the reads ask.
+-- `packets::status::get_rx_packet_status` meets its contract: the verdict decides its outcome, and a clear one gives the room that the reads ask.
 -- Assumes nothing.
 use borrow.Author.Needs.{needs}
 use mathlib.Core.Path.{refl, sym}
@@ -14,8 +14,8 @@ use Rattle.bus.proofs.admit.Calls.{Decided, decided}
 use Rattle.operations.specs.Packets.{measuring}
 use Rattle.operations.proofs.Counts.{measuringRecords, measuring-count}
 use Rattle.operations.proofs.Operations.{status-op}
-use Rattle.status.proofs.get_rx_packet_status.Statement.{statement}
-use Rattle.status.proofs.get_rx_packet_status.Tie as tie
+use Rattle.packets.proofs.status.get_rx_packet_status.Statement.{statement}
+use Rattle.packets.proofs.status.get_rx_packet_status.Tie as tie
 
 decision : (c : tie.After-admit) → let a = c .before .before .before .before .before .args in Decided (status-op (a .variant) (now (a .image))) (now (a .image)) (now (a .log)) (a .used) (c .admit .result)
 decision c = let a = c .before .before .before .before .before .args in decided (status-op (a .variant) (now (a .image))) (now (a .image)) (now (a .log)) (a .used) refl (c .before .before .status-records .ensures .0) (c .admit .ensures)

@@ -1,4 +1,4 @@
--- `payload::set_payload` meets its contract: the verdict decides its outcome, and a clear one gives the room that the steps ask.
+-- `packets::payload::set_payload` meets its contract: the verdict decides its outcome, and a clear one gives the room that the steps ask.
 -- Assumes nothing.
 use borrow.Author.Needs.{needs}
 use lib.ListN.{length}
@@ -7,8 +7,8 @@ use native.Mathlib.Omega.{arith}
 use denote.Ref.{now}
 use Rattle.operations.proofs.Counts.{sending-count}
 use Rattle.operations.proofs.FifoCalls.{payload-op, short, refused, room-for, goes-on}
-use Rattle.payload.proofs.set_payload.Statement.{statement}
-use Rattle.payload.proofs.set_payload.Tie as tie
+use Rattle.packets.proofs.payload.set_payload.Statement.{statement}
+use Rattle.packets.proofs.payload.set_payload.Tie as tie
 
 write-payload-requires : tie.Need-write-payload-requires
 write-payload-requires c κs =

@@ -1,10 +1,10 @@
--- `status::read_frf` meets its contract: three reads, joined.
+-- `packets::status::read_frf` meets its contract: three reads, joined.
 -- Assumes nothing.
 use borrow.Author.Needs.{needs}
 use Rattle.bus.proofs.log.Runs.{then}
 use Rattle.sheets.proofs.Frequency.{frf-lt}
-use Rattle.status.proofs.read_frf.Statement.{statement}
-use Rattle.status.proofs.read_frf.Tie as tie
+use Rattle.packets.proofs.status.read_frf.Statement.{statement}
+use Rattle.packets.proofs.status.read_frf.Tie as tie
 
 returns : tie.Need-returns
 returns c =

@@ -1,4 +1,4 @@
--- `status::measure` meets its contract: reads, joined, and what follows from their bytes.
+-- `packets::status::measure` meets its contract: reads, joined, and what follows from their bytes.
 -- Assumes nothing.
 use borrow.Author.Needs.{needs}
 use denote.Ref.{now}
@@ -6,8 +6,8 @@ use Rattle.bus.proofs.log.Runs.{then}
 use Rattle.operations.specs.Packets.{tuned}
 use Rattle.signal.proofs.Known.{offset-range}
 use Rattle.signal.proofs.Signed16.{held}
-use Rattle.status.proofs.measure.Statement.{statement}
-use Rattle.status.proofs.measure.Tie as tie
+use Rattle.packets.proofs.status.measure.Statement.{statement}
+use Rattle.packets.proofs.status.measure.Tie as tie
 
 packet-status-requires : tie.Need-packet-status-requires
 packet-status-requires c κs =
