@@ -1,4 +1,4 @@
-// Interrupts set up: `set_irq_params`.
+// Interrupts: what is set up for a mode, and what an event is.
 ghost use mathlib.Core.Path.{_≡_};
 ghost use mathlib.Core.List.{[]};
 ghost use Prim.Native.Nat.{_+_, _≤_};
@@ -8,20 +8,24 @@ ghost use Rattle.refusals.specs.Modes.{activity};
 ghost use Rattle.bus.specs.Steps.{Done};
 ghost use Rattle.bus.specs.Call.{Meets};
 ghost use Rattle.operations.specs.Interrupts.{preparing, setIrq};
+use crate::modes::dio_mapping_1;
+use crate::modes::dio_mapping_1_mask;
+use crate::modes::irq_flags;
+use crate::modes::irq_flags_mask;
+use crate::modes::mode_or_sleep;
+use crate::modes::set_refusal;
 use bus::admit::admit;
 use bus::modify_register;
 use bus::write_register;
-use irq_modes::dio_mapping_1;
-use irq_modes::dio_mapping_1_mask;
-use irq_modes::irq_flags;
-use irq_modes::irq_flags_mask;
-use irq_modes::mode_or_sleep;
-use irq_modes::set_refusal;
 use params::answers::Answer;
 use params::mod_params::RadioMode;
 use params::mod_params::Verdict;
 use params::radio_kind_params::Register;
 use refusals::mode_codes::radio_mode;
+
+pub mod event;
+pub mod modes;
+pub mod outcome;
 
 fn write_irq_params(image: &mut [u8], log: &mut [u8], at: usize, mode: RadioMode) -> usize
     requires { ⌜ (at + 12 ≤ length (now log)) × (length (now image) ≡ 128) ⌝ }

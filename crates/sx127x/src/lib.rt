@@ -1,5 +1,5 @@
 // The driver: every operation of the SX1272 and the SX1276 under one name, as the Rust's mod.rs has them.
-pub use event::process_irq_event;
+pub use irq::event::process_irq_event;
 pub use irq::set_irq_params;
 pub use modem::framing::set_packet_params;
 pub use modem::modulation::set_modulation_params;
