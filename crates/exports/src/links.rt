@@ -1,7 +1,7 @@
 // A whole link: programmed, and read back.
 ghost use mathlib.Core.List.{[]};
 ghost use Rattle.operations.specs.Programming.{programLink};
-ghost use Rattle.lora_page.specs.Reading.{readLink};
+ghost use Rattle.page.specs.Reading.{readLink};
 ghost use Rattle.results.specs.Results.{Tells};
 ghost use Rattle.board_flags.specs.Boards.{boardOf};
 ghost use Rattle.telling.specs.Exports.{Exported};

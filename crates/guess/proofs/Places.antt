@@ -13,9 +13,9 @@ use Rattle.sheets.specs.declared.Variant.the-variants.{Sx1272, Sx1276}
 use Rattle.params.specs.declared.mod_params.Link.{Link}
 use Rattle.params.specs.declared.board.Board.{Board}
 use Rattle.page.specs.Page.{Place, improved, find, pick}
-use Rattle.lora_page.specs.Lora as L
-use Rattle.lora_page.specs.Lora.{places, placesOf}
-use Rattle.lora_page.proofs.Acceptance.{_▸_}
+use Rattle.page.specs.Lora as L
+use Rattle.page.specs.Lora.{places, placesOf}
+use Rattle.page.proofs.Acceptance.{_▸_}
 
 -- ---- registers that tell something
 

@@ -2,7 +2,7 @@
 ghost use mathlib.Core.Path.{_≡_};
 ghost use Prim.Native.Nat.{_<_, _^_};
 ghost use Rattle.page.specs.Page.{improved, find};
-ghost use Rattle.lora_page.specs.Lora.{tuned, powered, announced, shaped, frf-msb, frf-mid, frf-lsb, pa-config, pa-dac, config-1, config-2, invert-iq, sync-word, placesOf};
+ghost use Rattle.page.specs.Lora.{tuned, powered, announced, shaped, frf-msb, frf-mid, frf-lsb, pa-config, pa-dac, config-1, config-2, invert-iq, sync-word, placesOf};
 use params::board::Board;
 use params::mod_params::Link;
 use params::units::Steps;

@@ -13,7 +13,7 @@ use Rattle.refusals.specs.Refusals.{linkRefusal}
 use Rattle.bus.specs.Steps.{endAfter}
 use Rattle.bus.specs.Call.{admitted, settled, well}
 use Rattle.operations.specs.Programming.{programming, programLink}
-use Rattle.lora_page.specs.Links.{clear, accepted, Accepted}
+use Rattle.page.specs.Links.{clear, accepted, Accepted}
 use Rattle.link.specs.Programmed.{programmed}
 
 -- the verdict on a call to `program`

@@ -16,11 +16,11 @@ use Rattle.params.specs.Answers.{linkValues}
 use Rattle.params.specs.declared.board.Board.{Board}
 use Rattle.page.specs.Page.{Image, Reading, Reading.found, Reading.notASetting, program, read}
 use Rattle.page.proofs.Demand3 as general
-use Rattle.lora_page.specs.Links.{Accepted, plain}
-use Rattle.lora_page.specs.Lora.{page}
-use Rattle.lora_page.specs.Reading.{tellsReading, tellsIf, readLink}
-use Rattle.lora_page.proofs.Lawful.{lawful, canonical-plain, same-link}
-use Rattle.lora_page.proofs.Sequence.{whole-programming}
+use Rattle.page.specs.Links.{Accepted, plain}
+use Rattle.page.specs.Lora.{page}
+use Rattle.page.specs.Reading.{tellsReading, tellsIf, readLink}
+use Rattle.page.proofs.Lawful.{lawful, canonical-plain, same-link}
+use Rattle.page.proofs.Sequence.{whole-programming}
 use Rattle.link.specs.Programmed.{programmed}
 use Rattle.link.specs.OneLink.{OneLink}
 

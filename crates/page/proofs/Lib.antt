@@ -2,3 +2,8 @@ pub mod Mask
 pub mod Demand3
 pub mod Prefix
 pub mod Find
+pub mod Acceptance
+pub mod Power
+pub mod Lawful
+pub mod Cells
+pub mod Sequence

@@ -1,1 +1,4 @@
 pub mod Page
+pub mod Links
+pub mod Lora
+pub mod Reading

@@ -1,1 +1,1 @@
-// Pages of registers: settings that are programmed into an image and read back from it, once for every page. Nothing here runs.
+// One link, one image: for any page of registers, and LoRa's page.

@@ -19,10 +19,10 @@ use Rattle.params.specs.declared.board.Board.{Board}
 use Rattle.page.specs.Page.{Image, Place, Reading.found, Reading.notASetting, Same, nowhere, find, improved, program, guess, first, fits, read}
 use Rattle.page.proofs.Prefix.{guess-next, fits-first, refused-early, found-last}
 use Rattle.page.proofs.Find.{find-own}
-use Rattle.lora_page.specs.Links.{accepted, Accepted}
-use Rattle.lora_page.specs.Lora.{places, blank, placesOf, page}
-use Rattle.lora_page.proofs.Lawful.{lawful}
-use Rattle.lora_page.proofs.Sequence.{whole-programming}
+use Rattle.page.specs.Links.{accepted, Accepted}
+use Rattle.page.specs.Lora.{places, blank, placesOf, page}
+use Rattle.page.proofs.Lawful.{lawful}
+use Rattle.page.proofs.Sequence.{whole-programming}
 use Rattle.trial.specs.Tests.{registers, alike, keeps, fitsSoFar}
 
 -- ---- the places' addresses are the reader's order

@@ -8,7 +8,7 @@ use lib.ListN.{getD}
 use Rattle.sheets.specs.Reader.{readerOrder}
 use Rattle.params.specs.declared.board.Board.{Board}
 use Rattle.page.specs.Page.{guess as guessed, first, fits}
-use Rattle.lora_page.specs.Lora.{page}
+use Rattle.page.specs.Lora.{page}
 use Rattle.reader.specs.declared.Seen.{Seen}
 use Rattle.trial.specs.Tests.{registers}
 

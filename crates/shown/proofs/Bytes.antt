@@ -14,7 +14,7 @@ use Rattle.sheets.specs.declared.Variant.{Variant}
 use Rattle.sheets.specs.declared.Variant.the-variants.{Sx1272, Sx1276}
 use Rattle.sheets.proofs.Sweep.{at, agree}
 use Rattle.outputs.proofs.levels.Whole.{held}
-use Rattle.lora_page.specs.Lora.{shown, shownWith}
+use Rattle.page.specs.Lora.{shown, shownWith}
 
 module _ (x : ℕ) (b : x < 256) where
   pub boosted-72 : toZ w32 (x % 16 + 2) ≡ shown Sx1272 true x

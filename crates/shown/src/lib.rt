@@ -3,7 +3,7 @@ ghost use mathlib.Core.Path.{_≡_};
 ghost use mathlib.Core.Bool.{Bool};
 ghost use Prim.Native.Nat.{_<_};
 ghost use lib.IntN.{pos, _-ℤ_};
-ghost use Rattle.lora_page.specs.Lora.{shown, shownWith};
+ghost use Rattle.page.specs.Lora.{shown, shownWith};
 use sheets::Variant;
 
 // RFO of the SX1272 counts from -1 dBm.

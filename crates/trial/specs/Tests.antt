@@ -9,7 +9,7 @@ use Rattle.params.specs.declared.mod_params.Link.{Link}
 use Rattle.params.specs.declared.board.Board.{Board}
 use Rattle.bus.specs.Steps.{imageAfter}
 use Rattle.operations.specs.Programming.{programming}
-use Rattle.lora_page.specs.Links.{accepted}
+use Rattle.page.specs.Links.{accepted}
 
 -- how many registers of the order a board has
 abbrev pub registers : Board → ℕ

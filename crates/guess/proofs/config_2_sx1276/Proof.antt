@@ -2,7 +2,7 @@
 -- Assumes nothing.
 use mathlib.Core.Path.{refl}
 use native.Mathlib.Omega.{arith}
-use Rattle.lora_page.proofs.Lawful.{same-link}
+use Rattle.page.proofs.Lawful.{same-link}
 use Rattle.guess.proofs.Bytes.{sf-76, crc-76}
 use Rattle.guess.proofs.config_2_sx1276.Statement.{statement}
 use Rattle.guess.proofs.config_2_sx1276.Tie as tie

@@ -4,7 +4,7 @@ use borrow.Author.Needs.{needs}
 use mathlib.Core.Path.{ap, _∙_}
 use native.Mathlib.Omega.{arith}
 use lib.IntN.{ℤ}
-use Rattle.lora_page.specs.Lora.{powered}
+use Rattle.page.specs.Lora.{powered}
 use Rattle.shown.proofs.Bytes.{shown-held}
 use Rattle.guess.proofs.pa_config.Statement.{statement}
 use Rattle.guess.proofs.pa_config.Tie as tie

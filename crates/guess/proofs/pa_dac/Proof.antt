@@ -10,7 +10,7 @@ use Rattle.sheets.specs.declared.Variant.the-variants.{Sx1272}
 use Rattle.sheets.specs.Power.{clamped}
 use Rattle.outputs.proofs.levels.Whole.{held}
 use Rattle.outputs.proofs.levels.Clamped.{in-range, config-of}
-use Rattle.lora_page.specs.Lora.{powered}
+use Rattle.page.specs.Lora.{powered}
 use Rattle.shown.proofs.Bytes.{with-held}
 use Rattle.guess.proofs.pa_dac.Statement.{statement}
 use Rattle.guess.proofs.pa_dac.Tie as tie

@@ -2,7 +2,7 @@
 -- Assumes nothing.
 use borrow.Author.Needs.{needs}
 use mathlib.Core.Path.{refl}
-use Rattle.lora_page.proofs.Lawful.{same-link}
+use Rattle.page.proofs.Lawful.{same-link}
 use Rattle.guess.proofs.tuned.Statement.{statement}
 use Rattle.guess.proofs.tuned.Tie as tie
 

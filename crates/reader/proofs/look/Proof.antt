@@ -11,7 +11,7 @@ use borrow.Author.Tests.{not-true, not-false}
 use lib.Dec.{T}
 use denote.Ref.{now}
 use Rattle.page.specs.Page.{Image, guess as guessed, first, fits}
-use Rattle.lora_page.specs.Lora.{page}
+use Rattle.page.specs.Lora.{page}
 use Rattle.reader.specs.Look.{Fit}
 use Rattle.trial.proofs.Order.{order-lt, order-le}
 use Rattle.reader.proofs.SoFar.{so-far, next-guess, begins}

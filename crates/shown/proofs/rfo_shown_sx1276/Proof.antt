@@ -9,7 +9,7 @@ use mir.Syntax.{w32}
 use mir.Val.{toZ}
 use Rattle.sheets.specs.declared.Variant.the-variants.{Sx1276}
 use Rattle.sheets.proofs.Sweep.{agree}
-use Rattle.lora_page.specs.Lora.{shown}
+use Rattle.page.specs.Lora.{shown}
 use Rattle.shown.proofs.rfo_shown_sx1276.Statement.{statement}
 use Rattle.shown.proofs.rfo_shown_sx1276.Tie as tie
 

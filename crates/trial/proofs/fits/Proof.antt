@@ -4,7 +4,7 @@ use borrow.Author.Needs.{needs}
 use mathlib.Core.Path.{sym, _∙_}
 use native.Mathlib.Omega.{arith}
 use borrow.Author.Tests.{lt-ltb}
-use Rattle.lora_page.specs.Links.{accepted}
+use Rattle.page.specs.Links.{accepted}
 use Rattle.trial.specs.Tests.{keeps}
 use Rattle.trial.proofs.fits.Statement.{statement}
 use Rattle.trial.proofs.fits.Tie as tie

@@ -9,8 +9,8 @@ use Rattle.params.specs.declared.mod_params.RadioError.the-variants.{BadImage, 
 use Rattle.params.specs.Errors.{Told, told, refusal}
 use Rattle.params.specs.Answers.{linkValues}
 use Rattle.params.specs.declared.board.Board.{Board}
 use Rattle.page.specs.Page.{Reading, Reading.found, Reading.notASetting, read}
-use Rattle.lora_page.specs.Lora.{page}
+use Rattle.page.specs.Lora.{page}
 
 abbrev pub tellsReading : Reading Link → Told
 tellsReading (found l) = told 0 (linkValues l)

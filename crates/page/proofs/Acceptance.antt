@@ -18,7 +18,7 @@ use Rattle.params.specs.declared.mod_params.RadioError.the-variants.{InvalidCon
 use Rattle.params.specs.declared.mod_params.Verdict.{Verdict}
 use Rattle.params.specs.declared.mod_params.Verdict.the-variants.{Clear, Refused}
 use Rattle.refusals.specs.Refusals.{unless, named, first, linkVerdicts, linkRefusal}
-use Rattle.lora_page.specs.Links.{clear, accepted}
+use Rattle.page.specs.Links.{clear, accepted}
 
 -- ---- a row of verdicts is clear exactly when each is
 

@@ -18,12 +18,12 @@ use Rattle.sheets.proofs.Frequency.{steps-lowest, lowest-lt, steps-fit}
 use Rattle.sheets.proofs.Modem.{optimize-le, code-76, code-72}
 use Rattle.params.specs.declared.mod_params.Link.{Link}
 use Rattle.params.specs.declared.board.Board.{Board}
 use Rattle.page.specs.Page.{Place, Lawful, Learns, Agree, Clear, apart, canonical, told}
-use Rattle.lora_page.specs.Links.{link, accepted, plain}
-use Rattle.lora_page.specs.Lora as L
-use Rattle.lora_page.specs.Lora.{is, flagOf, places, blank, pageOf, page}
-use Rattle.lora_page.proofs.Acceptance.{Ranges, ranges, accepts, _▸_}
-use Rattle.lora_page.proofs.Power as power
+use Rattle.page.specs.Links.{link, accepted, plain}
+use Rattle.page.specs.Lora as L
+use Rattle.page.specs.Lora.{is, flagOf, places, blank, pageOf, page}
+use Rattle.page.proofs.Acceptance.{Ranges, ranges, accepts, _▸_}
+use Rattle.page.proofs.Power as power
 
 -- ---- frequency
 

@@ -14,8 +14,8 @@ use Rattle.sheets.specs.Power.{paConfig, paDac, ocp, paRamp}
 use Rattle.sheets.specs.Signal.{signed}
 use Rattle.params.specs.declared.mod_params.Link.{Link}
 use Rattle.params.specs.declared.board.Board.{Board}
 use Rattle.page.specs.Page.{Place, Page}
-use Rattle.lora_page.specs.Links.{link, accepted}
+use Rattle.page.specs.Links.{link, accepted}
 
 -- a byte that is written whole and tells the reader nothing new
 abbrev pub known : ℕ → (Link → ℕ) → Place Link

@@ -18,11 +18,11 @@ use Rattle.params.specs.declared.mod_params.Link.{Link}
 use Rattle.params.specs.declared.board.Board.{Board}
 use Rattle.bus.specs.Steps.{imageAfter}
 use Rattle.operations.specs.Programming.{programming}
 use Rattle.page.specs.Page.{Image, program}
-use Rattle.lora_page.specs.Links.{accepted}
-use Rattle.lora_page.specs.Lora.{flagOf, page, pageOf}
-use Rattle.lora_page.proofs.Acceptance.{Ranges, ranges}
-use Rattle.lora_page.proofs.Cells.{cells, by-cells}
+use Rattle.page.specs.Links.{accepted}
+use Rattle.page.specs.Lora.{flagOf, page, pageOf}
+use Rattle.page.proofs.Acceptance.{Ranges, ranges}
+use Rattle.page.proofs.Cells.{cells, by-cells}
 
 -- ---- bytes that are written more than once
 

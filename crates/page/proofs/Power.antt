@@ -12,7 +12,7 @@ use Rattle.sheets.specs.Registers.{PaDacReserved, PaDac, OcpOn, OcpTrim}
 use Rattle.sheets.specs.Power.{clamped, strong, outputs, paConfig, paDac, ocp}
 use Rattle.sheets.proofs.Sweep.{sameℤ, sameℤ→eq}
 use Rattle.outputs.proofs.levels.Clamped.{at-clamped, config-of, dac-of, ocp-of}
-use Rattle.lora_page.specs.Lora.{shown, shownWith}
+use Rattle.page.specs.Lora.{shown, shownWith}
 
 -- RegPaDac by the clamped power
 abbrev dacOf : Variant → Bool → ℤ → ℕ

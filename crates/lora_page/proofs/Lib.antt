@@ -1,5 +1,0 @@
-pub mod Acceptance
-pub mod Power
-pub mod Lawful
-pub mod Cells
-pub mod Sequence
