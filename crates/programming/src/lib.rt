@@ -3,14 +3,17 @@ ghost use mathlib.Core.List.{[]};
 ghost use Rattle.params.specs.Answers.{tellsDone, usedDone};
 ghost use Rattle.bus.specs.Call.{Meets};
 ghost use Rattle.operations.specs.Programming.{programLink};
-use acceptance::link_refusal;
+use crate::acceptance::link_refusal;
+use crate::writes::write_link;
 use bus::admit::admit;
-use link_writes::write_link;
 use params::answers::Answer;
 use params::board::Board;
 use params::mod_params::Link;
 use params::mod_params::Verdict;
 use variants::records::program_records;
+
+pub mod acceptance;
+pub mod writes;
 
 pub fn program(image: &mut [u8], log: &mut [u8], used: usize, board: Board, link: Link) -> Answer
     ensures { λ r. ⌜ Meets (programLink board link (now (image .entry)) (now (log .entry)) used) (tellsDone r) (usedDone r) (now (image .exit)) [] (now (log .exit)) [] ⌝ }

@@ -6,11 +6,11 @@ ghost use lib.ListN.{length, take};
 ghost use Rattle.sheets.specs.Reader.{readerOrder};
 ghost use Rattle.refusals.specs.Refusals.{linkRefusal};
 ghost use Rattle.trial.specs.Tests.{registers, alike, keeps, fitsSoFar};
-use acceptance::link_refusal;
-use link_writes::write_link;
 use params::board::Board;
 use params::mod_params::Link;
 use params::mod_params::Verdict;
+use programming::acceptance::link_refusal;
+use programming::writes::write_link;
 use sheets::Variant;
 
 // How many registers of the order a board has.

@@ -1,4 +1,4 @@
--- `link_writes::write_framed` meets its contract: packet and power, joined.
+-- `programming::writes::write_framed` meets its contract: packet and power, joined.
 -- Assumes nothing.
 use borrow.Author.Needs.{needs}
 use mathlib.Core.Path.{_∙_}
@@ -8,9 +8,9 @@ use mir.Syntax.{w32}
 use mir.Facts.{toZ-ofZ}
 use Rattle.bus.proofs.log.Runs.{then}
 use Rattle.operations.proofs.Counts.{packet-count}
-use Rattle.acceptance.proofs.Whole.{packet-clear}
-use Rattle.link_writes.proofs.write_framed.Statement.{statement}
-use Rattle.link_writes.proofs.write_framed.Tie as tie
+use Rattle.programming.proofs.acceptance.Whole.{packet-clear}
+use Rattle.programming.proofs.writes.write_framed.Statement.{statement}
+use Rattle.programming.proofs.writes.write_framed.Tie as tie
 
 write-packet-requires : tie.Need-write-packet-requires
 write-packet-requires c κs =

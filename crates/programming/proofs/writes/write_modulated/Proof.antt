@@ -1,4 +1,4 @@
--- `link_writes::write_modulated` meets its contract: modulation and what follows it, joined.
+-- `programming::writes::write_modulated` meets its contract: modulation and what follows it, joined.
 -- Assumes nothing.
 use borrow.Author.Needs.{needs}
 use mathlib.Core.Path.{_∙_}
@@ -6,9 +6,9 @@ use native.Mathlib.Omega.{arith}
 use denote.Ref.{now}
 use Rattle.bus.proofs.log.Runs.{then}
 use Rattle.operations.proofs.Counts.{modulation-count}
-use Rattle.acceptance.proofs.Whole.{modulation-clear, symbol-ranges}
-use Rattle.link_writes.proofs.write_modulated.Statement.{statement}
-use Rattle.link_writes.proofs.write_modulated.Tie as tie
+use Rattle.programming.proofs.acceptance.Whole.{modulation-clear, symbol-ranges}
+use Rattle.programming.proofs.writes.write_modulated.Statement.{statement}
+use Rattle.programming.proofs.writes.write_modulated.Tie as tie
 
 low-data-rate-optimize-requires : tie.Need-low-data-rate-optimize-requires
 low-data-rate-optimize-requires c κs =

@@ -1,7 +1,7 @@
 // Whether a link is accepted: what refuses it, in the order of the numbers.
 ghost use mathlib.Core.Path.{_≡_};
 ghost use Rattle.refusals.specs.Refusals.{linkRefusal};
-ghost use Rattle.acceptance.specs.Parts.{linkNamed, linkHad};
+ghost use Rattle.programming.specs.Parts.{linkNamed, linkHad};
 use modem::judgements;
 use params::mod_params::Link;
 use params::mod_params::Verdict;

@@ -1,4 +1,4 @@
--- `link_writes::write_link` meets its contract: initialization, channel and what follows them, joined.
+-- `programming::writes::write_link` meets its contract: initialization, channel and what follows them, joined.
 -- Assumes nothing.
 use borrow.Author.Needs.{needs}
 use mathlib.Core.Path.{_≡_, _∙_}
@@ -7,8 +7,8 @@ use native.Mathlib.Omega.{arith}
 use denote.Ref.{now}
 use Rattle.bus.proofs.log.Runs.{then}
 use Rattle.operations.proofs.Counts.{initRecords, init-count}
-use Rattle.link_writes.proofs.write_link.Statement.{statement}
-use Rattle.link_writes.proofs.write_link.Tie as tie
+use Rattle.programming.proofs.writes.write_link.Statement.{statement}
+use Rattle.programming.proofs.writes.write_link.Tie as tie
 
 -- where the log ends after the initialization
 after-init : (c : tie.After-write-init) → let a = c .before .before .before .before .before .args in c .write-init .result ≡ a .at + 3 * initRecords (a .board .«tcxo_used»)

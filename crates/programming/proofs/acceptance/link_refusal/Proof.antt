@@ -1,9 +1,9 @@
--- `acceptance::link_refusal` meets its contract: the two parts are the whole.
+-- `programming::acceptance::link_refusal` meets its contract: the two parts are the whole.
 -- Assumes nothing.
 use borrow.Author.Needs.{needs}
-use Rattle.acceptance.proofs.Whole.{whole}
-use Rattle.acceptance.proofs.link_refusal.Statement.{statement}
-use Rattle.acceptance.proofs.link_refusal.Tie as tie
+use Rattle.programming.proofs.acceptance.Whole.{whole}
+use Rattle.programming.proofs.acceptance.link_refusal.Statement.{statement}
+use Rattle.programming.proofs.acceptance.link_refusal.Tie as tie
 
 returns : tie.Need-returns
 returns c =

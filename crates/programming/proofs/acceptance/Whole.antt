@@ -13,7 +13,7 @@ use Rattle.params.specs.Errors.{or}
 use Rattle.refusals.specs.Refusals.{flag, spreadingFactor, bandwidth, codingRate, linkRefusal}
 use Rattle.refusals.proofs.Clear.{both-clear, named-clear, named-if}
 use Rattle.operations.specs.Modem.{modulationNamed, modulationHad, packetNamed}
-use Rattle.acceptance.specs.Parts.{linkNamed, linkHad}
+use Rattle.programming.specs.Parts.{linkNamed, linkHad}
 
 or-assoc : (a b c : Verdict) → or (or a b) c ≡ or a (or b c)
 or-assoc Clear b c = refl

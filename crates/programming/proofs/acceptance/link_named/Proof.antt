@@ -1,8 +1,8 @@
--- `acceptance::link_named` meets its contract: the verdicts follow each other.
+-- `programming::acceptance::link_named` meets its contract: the verdicts follow each other.
 -- Assumes nothing.
 use borrow.Author.Needs.{needs}
-use Rattle.acceptance.proofs.link_named.Statement.{statement}
-use Rattle.acceptance.proofs.link_named.Tie as tie
+use Rattle.programming.proofs.acceptance.link_named.Statement.{statement}
+use Rattle.programming.proofs.acceptance.link_named.Tie as tie
 
 returns : tie.Need-returns
 returns c =

@@ -1,10 +1,10 @@
--- `acceptance::link_had` meets its contract: the verdicts follow each other.
+-- `programming::acceptance::link_had` meets its contract: the verdicts follow each other.
 -- Assumes nothing.
 use borrow.Author.Needs.{needs}
 use mathlib.Core.Path.{ap₂, _∙_}
 use Rattle.params.specs.Errors.{or}
-use Rattle.acceptance.proofs.link_had.Statement.{statement}
-use Rattle.acceptance.proofs.link_had.Tie as tie
+use Rattle.programming.proofs.acceptance.link_had.Statement.{statement}
+use Rattle.programming.proofs.acceptance.link_had.Tie as tie
 
 returns : tie.Need-returns
 returns c =
