@@ -23,7 +23,7 @@ use Rattle.page.specs.Links.{accepted, Accepted}
 use Rattle.page.specs.Lora.{places, blank, placesOf, page}
 use Rattle.page.proofs.Lawful.{lawful}
 use Rattle.page.proofs.Sequence.{whole-programming}
-use Rattle.trial.specs.Tests.{registers, alike, keeps, fitsSoFar}
+use Rattle.reader.specs.Tests.{registers, alike, keeps, fitsSoFar}
 
 -- ---- the places' addresses are the reader's order
 

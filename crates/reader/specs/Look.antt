@@ -10,7 +10,7 @@ use Rattle.params.specs.declared.board.Board.{Board}
 use Rattle.page.specs.Page.{guess as guessed, first, fits}
 use Rattle.page.specs.Lora.{page}
 use Rattle.reader.specs.declared.Seen.{Seen}
-use Rattle.trial.specs.Tests.{registers}
+use Rattle.reader.specs.Tests.{registers}
 
 -- the first n values of the image are those of an accepted link
 abbrev pub Fit : Board → List ℕ → ℕ → Type 0

@@ -7,13 +7,17 @@ ghost use Rattle.page.specs.Page.{read};
 ghost use Rattle.page.specs.Lora.{blank, page};
 ghost use Rattle.page.specs.Reading.{tellsReading, readLink};
 ghost use Rattle.reader.specs.Look.{Examined, LastExamined, Looked};
-use guess::learn;
+use crate::fitting::fits;
+use crate::registers::learn;
 use params::answers::LinkAnswer;
 use params::board::Board;
 use params::mod_params::Link;
 use params::mod_params::RadioError;
 use params::units::Hertz;
-use trial::fits;
+
+pub mod fitting;
+pub mod power_shown;
+pub mod registers;
 
 // The guess from the registers looked at so far, how many they are, and whether it fits them.
 struct Seen {
@@ -47,7 +51,7 @@ fn look(image: &[u8], board: Board) -> Seen
     ensures { λ r. ⌜ Looked board (now (image .entry)) r ⌝ }
 {
     let variant = board.variant;
-    let count = trial::registers(board);
+    let count = fitting::registers(board);
     let mut guess = blank();
     let mut i = 0;
     while i < count {

@@ -7,7 +7,7 @@ use mathlib.Core.Bool.{true}
 use denote.Ref.{now}
 use lib.ListN.{length}
 use Rattle.sheets.specs.Reader.{readerOrder}
-use Rattle.trial.proofs.Order.{order-lt, order-le}
+use Rattle.reader.proofs.fitting.Order.{order-lt, order-le}
 use Rattle.reader.proofs.Least.{not-none}
 use Rattle.reader.proofs.last_examined.Statement.{statement}
 use Rattle.reader.proofs.last_examined.Tie as tie

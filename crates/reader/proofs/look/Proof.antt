@@ -13,7 +13,7 @@ use denote.Ref.{now}
 use Rattle.page.specs.Page.{Image, guess as guessed, first, fits}
 use Rattle.page.specs.Lora.{page}
 use Rattle.reader.specs.Look.{Fit}
-use Rattle.trial.proofs.Order.{order-lt, order-le}
+use Rattle.reader.proofs.fitting.Order.{order-lt, order-le}
 use Rattle.reader.proofs.SoFar.{so-far, next-guess, begins}
 use Rattle.reader.proofs.look.Statement.{statement}
 use Rattle.reader.proofs.look.Tie as tie
