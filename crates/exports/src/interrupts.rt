@@ -1,9 +1,9 @@
 // Interrupts set up, and interrupts that came.
 ghost use mathlib.Core.List.{[]};
 ghost use Rattle.operations.specs.Interrupts.{setIrq, processIrq};
-ghost use Rattle.telling.specs.Exports.{Exported};
-use telling::answers::done;
-use telling::answers::irq;
+ghost use Rattle.results.specs.Exports.{Exported};
+use results::answers::done;
+use results::answers::irq;
 
 // Mode 6 is no mode; `rx_mode` counts where the mode is Receive.
 #[no_mangle]

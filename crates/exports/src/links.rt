@@ -3,14 +3,14 @@ ghost use mathlib.Core.List.{[]};
 ghost use Rattle.operations.specs.Programming.{programLink};
 ghost use Rattle.page.specs.Reading.{readLink};
 ghost use Rattle.results.specs.Results.{Tells};
-ghost use Rattle.board_flags.specs.Boards.{boardOf};
-ghost use Rattle.telling.specs.Exports.{Exported};
+ghost use Rattle.results.specs.Boards.{boardOf};
+ghost use Rattle.results.specs.Exports.{Exported};
 ghost use Rattle.exports.specs.Records.{linkOf};
-use board_flags::board_of;
 use params::mod_params::Link;
 use params::units::Hertz;
-use telling::answers::done;
-use telling::answers::link;
+use results::answers::done;
+use results::answers::link;
+use results::board_flags::board_of;
 
 // A link of ten numbers.
 #[no_mangle]

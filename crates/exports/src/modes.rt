@@ -1,10 +1,10 @@
 // What the radio does: reset, standby, sleep, transmit, receive, channel activity detection, carrier.
 ghost use mathlib.Core.List.{[]};
 ghost use Rattle.operations.specs.Modes.{reset, setStandby, setSleep, doTx, doRx, doCad, setCarrier};
-ghost use Rattle.board_flags.specs.Boards.{boardOf};
-ghost use Rattle.telling.specs.Exports.{Exported};
-use board_flags::board_of;
-use telling::answers::done;
+ghost use Rattle.results.specs.Boards.{boardOf};
+ghost use Rattle.results.specs.Exports.{Exported};
+use results::answers::done;
+use results::board_flags::board_of;
 
 // The reset pin, then sleep.
 #[no_mangle]

@@ -1,12 +1,12 @@
 // Payloads sent and received, and the signal of a packet.
 ghost use mathlib.Core.List.{[]};
 ghost use Rattle.operations.specs.Packets.{setPayload, getPayload, getStatus};
-ghost use Rattle.board_flags.specs.Boards.{boardOf};
-ghost use Rattle.telling.specs.Exports.{Exported};
-use board_flags::board_of;
-use telling::answers::done;
-use telling::answers::payload;
-use telling::answers::status;
+ghost use Rattle.results.specs.Boards.{boardOf};
+ghost use Rattle.results.specs.Exports.{Exported};
+use results::answers::done;
+use results::answers::payload;
+use results::answers::status;
+use results::board_flags::board_of;
 
 // A payload into the FIFO.
 #[no_mangle]

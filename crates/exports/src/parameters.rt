@@ -2,16 +2,16 @@
 ghost use mathlib.Core.List.{[]};
 ghost use Rattle.operations.specs.Modem.{createModulation, createPacket, setModulation, setPacket};
 ghost use Rattle.results.specs.Results.{Tells};
-ghost use Rattle.board_flags.specs.Boards.{boardOf};
-ghost use Rattle.telling.specs.Exports.{Exported};
+ghost use Rattle.results.specs.Boards.{boardOf};
+ghost use Rattle.results.specs.Exports.{Exported};
 ghost use Rattle.exports.specs.Records.{modulationOf, packetOf};
-use board_flags::board_of;
 use params::mod_params::ModulationParams;
 use params::mod_params::PacketParams;
 use params::units::Hertz;
-use telling::answers::done;
-use telling::answers::modulation;
-use telling::answers::packet;
+use results::answers::done;
+use results::answers::modulation;
+use results::answers::packet;
+use results::board_flags::board_of;
 
 // Values: spreading factor, bandwidth, coding rate, optimize, hertz.
 #[no_mangle]

@@ -2,10 +2,10 @@
 ghost use mathlib.Core.List.{[]};
 ghost use Rattle.operations.specs.Setup.{initLora, setBases, setChannel};
 ghost use Rattle.operations.specs.Power.{setPower};
-ghost use Rattle.board_flags.specs.Boards.{boardOf};
-ghost use Rattle.telling.specs.Exports.{Exported};
-use board_flags::board_of;
-use telling::answers::done;
+ghost use Rattle.results.specs.Boards.{boardOf};
+ghost use Rattle.results.specs.Exports.{Exported};
+use results::answers::done;
+use results::board_flags::board_of;
 
 // `public_network` 1 or 0.
 #[no_mangle]

@@ -1,1 +1,4 @@
 pub mod Results
+pub mod Word
+pub mod Boards
+pub mod Exports

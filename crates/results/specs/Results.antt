@@ -5,7 +5,7 @@ use Prim.Native.Nat.{ℕ, _+_}
 use lib.ListN.{set}
 use lib.IntN.{ℤ, pos}
 use Rattle.params.specs.Errors.{Told}
-use Rattle.result_words.specs.Word.{word}
+use Rattle.results.specs.Word.{word}
 
 abbrev pub words : List ℤ → List ℕ
 words [] = []

@@ -1,11 +1,15 @@
-// Results: the bytes used, then an answer's values, each a word of 64 bits, as many as there are places for.
+// What a C caller says and is told: values as words, the lent results, boards as flags, answers.
 ghost use mathlib.Core.Path.{_≡_};
 ghost use mathlib.Core.List.{[], _∷_};
 ghost use lib.IntN.{pos};
 ghost use Rattle.params.specs.Errors.{valuesOf, refusal};
 ghost use Rattle.results.specs.Results.{words, placed, Tells};
+use crate::words::put;
 use params::mod_params::RadioError;
-use result_words::put;
+
+pub mod answers;
+pub mod board_flags;
+pub mod words;
 
 fn put_values(results: &mut [u64], e: RadioError)
     ensures { λ _. ⌜ now (results .exit) ≡ placed 1 (words (valuesOf e)) (now (results .entry)) ⌝ }

@@ -1,7 +1,7 @@
 -- `exports::interrupts::sx127x_process_irq_event` meets its contract: what the call met is told.
 -- Assumes nothing.
 use borrow.Author.Needs.{needs}
-use Rattle.telling.proofs.Exported.{exported}
+use Rattle.results.proofs.Exported.{exported}
 use Rattle.exports.proofs.interrupts.sx127x_process_irq_event.Statement.{statement}
 use Rattle.exports.proofs.interrupts.sx127x_process_irq_event.Tie as tie
 

@@ -3,7 +3,7 @@
 use borrow.Author.Needs.{needs}
 use mir.Syntax.{w32}
 use mir.ValLaws.{toZ-ofZ}
-use Rattle.telling.proofs.Exported.{exported}
+use Rattle.results.proofs.Exported.{exported}
 use Rattle.exports.proofs.links.sx127x_program.Statement.{statement}
 use Rattle.exports.proofs.links.sx127x_program.Tie as tie
 

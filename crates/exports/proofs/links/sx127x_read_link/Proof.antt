@@ -1,7 +1,7 @@
 -- `exports::links::sx127x_read_link` meets its contract: what the call met is told.
 -- Assumes nothing.
 use borrow.Author.Needs.{needs}
-use Rattle.telling.proofs.Exported.{told}
+use Rattle.results.proofs.Exported.{told}
 use Rattle.exports.proofs.links.sx127x_read_link.Statement.{statement}
 use Rattle.exports.proofs.links.sx127x_read_link.Tie as tie
 

@@ -1,7 +1,7 @@
 -- `exports::packets::sx127x_get_rx_payload` meets its contract: what the call met is told.
 -- Assumes nothing.
 use borrow.Author.Needs.{needs}
-use Rattle.telling.proofs.Exported.{exported}
+use Rattle.results.proofs.Exported.{exported}
 use Rattle.exports.proofs.packets.sx127x_get_rx_payload.Statement.{statement}
 use Rattle.exports.proofs.packets.sx127x_get_rx_payload.Tie as tie
 

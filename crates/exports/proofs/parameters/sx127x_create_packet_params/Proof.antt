@@ -1,7 +1,7 @@
 -- `exports::parameters::sx127x_create_packet_params` meets its contract: what the call met is told.
 -- Assumes nothing.
 use borrow.Author.Needs.{needs}
-use Rattle.telling.proofs.Exported.{told}
+use Rattle.results.proofs.Exported.{told}
 use Rattle.exports.proofs.parameters.sx127x_create_packet_params.Statement.{statement}
 use Rattle.exports.proofs.parameters.sx127x_create_packet_params.Tie as tie
 

@@ -1,7 +1,7 @@
 -- `exports::setup::sx127x_init_lora` meets its contract: what the call met is told.
 -- Assumes nothing.
 use borrow.Author.Needs.{needs}
-use Rattle.telling.proofs.Exported.{exported}
+use Rattle.results.proofs.Exported.{exported}
 use Rattle.exports.proofs.setup.sx127x_init_lora.Statement.{statement}
 use Rattle.exports.proofs.setup.sx127x_init_lora.Tie as tie
 

@@ -1,7 +1,7 @@
 -- `exports::setup::sx127x_set_channel` meets its contract: what the call met is told.
 -- Assumes nothing.
 use borrow.Author.Needs.{needs}
-use Rattle.telling.proofs.Exported.{exported}
+use Rattle.results.proofs.Exported.{exported}
 use Rattle.exports.proofs.setup.sx127x_set_channel.Statement.{statement}
 use Rattle.exports.proofs.setup.sx127x_set_channel.Tie as tie
 

@@ -3,7 +3,7 @@
 use borrow.Author.Needs.{needs}
 use mir.Syntax.{w32}
 use mir.ValLaws.{toZ-ofZ}
-use Rattle.telling.proofs.Exported.{exported}
+use Rattle.results.proofs.Exported.{exported}
 use Rattle.exports.proofs.setup.sx127x_set_tx_power_and_ramp_time.Statement.{statement}
 use Rattle.exports.proofs.setup.sx127x_set_tx_power_and_ramp_time.Tie as tie
 

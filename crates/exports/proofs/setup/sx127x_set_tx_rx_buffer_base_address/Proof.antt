@@ -1,7 +1,7 @@
 -- `exports::setup::sx127x_set_tx_rx_buffer_base_address` meets its contract: what the call met is told.
 -- Assumes nothing.
 use borrow.Author.Needs.{needs}
-use Rattle.telling.proofs.Exported.{exported}
+use Rattle.results.proofs.Exported.{exported}
 use Rattle.exports.proofs.setup.sx127x_set_tx_rx_buffer_base_address.Statement.{statement}
 use Rattle.exports.proofs.setup.sx127x_set_tx_rx_buffer_base_address.Tie as tie
 

@@ -1,2 +1,0 @@
-// Answers for callers in C: a number, and the results that they lend.
-pub mod answers;
