@@ -14,8 +14,8 @@ use Rattle.operations.specs.Interrupts.{setIrq}
 use Rattle.commands.specs.declared.Operation.{Operation}
 use Rattle.commands.specs.declared.Operation.the-variants.{InitLora, CreateModulationParams, CreatePacketParams, Reset, SetStandby, SetSleep, SetTxRxBufferBaseAddress, SetTxPowerAndRampTime, SetModulationParams, SetPacketParams, SetChannel, SetPayload, DoTx, DoRx, GetRxPayload, GetRxPacketStatus, DoCad, SetIrqParams, ProcessIrqEvent, SetTxContinuousWaveMode, Program, ReadLink}
 use Rattle.commands.specs.Operations.{byte, word, hertz, count}
-use Rattle.arguments.specs.Arguments.{argument, signedArgument}
-use Rattle.asked.specs.Records.{modulation, packet, link}
+use Rattle.commands.specs.Arguments.{argument, signedArgument}
+use Rattle.commands.specs.Records.{modulation, packet, link}
 
 abbrev pub modulationCreated : Variant → ℕ → List ℕ → Told
 modulationCreated v parting s =

@@ -7,9 +7,10 @@ use crate::lent::do_rx;
 use crate::lent::set_bases;
 use crate::lent::set_irq;
 use crate::lent::set_power;
-use arguments::byte;
-use arguments::hertz;
 use commands::Operation;
+use commands::arguments::byte;
+use commands::arguments::hertz;
+use commands::parameters;
 use params::answers::Answer;
 use params::board::Board;
 use sx127x::init_lora;
@@ -45,12 +46,18 @@ pub fn done(
         Operation::DoRx => do_rx(args, parting, board.rx_boost, image, log, used),
         Operation::SetIrqParams => set_irq(args, parting, image, log, used),
         Operation::SetModulationParams => {
-            set_modulation_params(image, log, used, v, asked::modulation(args, parting))
+            set_modulation_params(image, log, used, v, parameters::modulation(args, parting))
         }
         Operation::SetPacketParams => {
-            set_packet_params(image, log, used, v, asked::packet(args, parting))
+            set_packet_params(image, log, used, v, parameters::packet(args, parting))
         }
-        Operation::Program => link::program(image, log, used, board, asked::link(args, parting)),
+        Operation::Program => link::program(
+            image,
+            log,
+            used,
+            board,
+            parameters::link(args, parting),
+        ),
         _ => Answer::Done(used),
     }
 }

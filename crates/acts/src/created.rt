@@ -2,9 +2,9 @@
 ghost use mathlib.Core.Path.{_≡_};
 ghost use Rattle.params.specs.Answers.{tellsModulation, tellsPacket};
 ghost use Rattle.acts.specs.Acts.{modulationCreated, packetCreated};
-use arguments::byte;
-use arguments::hertz;
-use arguments::word;
+use commands::arguments::byte;
+use commands::arguments::hertz;
+use commands::arguments::word;
 use params::answers::ModulationAnswer;
 use params::answers::PacketAnswer;
 use sheets::Variant;

@@ -1,1 +1,4 @@
 pub mod Operations
+pub mod Rows
+pub mod Arguments
+pub mod Records

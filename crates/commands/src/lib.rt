@@ -1,10 +1,14 @@
-// The operations by their names.
+// The operations by their names, and the arguments that each takes.
 ghost use mathlib.Core.Path.{_≡_};
 ghost use Prim.Native.Nat.{_<_};
 ghost use lib.ListN.{getD};
 ghost use Rattle.commands.specs.Operations.{foundFrom, operations, operationOf};
 use text::reading::field;
 use text::reading::same;
+
+pub mod arguments;
+pub mod parameters;
+pub mod signatures;
 
 pub enum Operation {
     InitLora,

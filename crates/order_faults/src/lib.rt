@@ -3,8 +3,8 @@ ghost use Prim.Native.Nat.{_+_, _≤_};
 ghost use lib.ListN.{length};
 ghost use Rattle.text.specs.Text.{Appended};
 ghost use Rattle.order_faults.specs.Words.{rangeText, expectedText, placeText, wrongText};
+use commands::signatures::POWER;
 use orders::Expected;
-use signatures::POWER;
 use text::digits::put_decimal;
 use text::printing::put;
 

@@ -12,7 +12,7 @@ use Rattle.commands.specs.declared.Operation.{Operation}
 use Rattle.commands.specs.declared.Named.{Named}
 use Rattle.commands.specs.declared.Named.the-variants.{Known, Unknown}
 use Rattle.commands.specs.Operations.{kinds}
-use Rattle.arguments.specs.Arguments.{misfitFrom}
+use Rattle.commands.specs.Arguments.{misfitFrom}
 use Rattle.shorthand.specs.Shorthand.{commandOf}
 use Rattle.orders.specs.declared.Expected.the-variants.{Command, Number, Bytes, Nothing}
 use Rattle.orders.specs.declared.Flaw.{Flaw}

@@ -2,12 +2,12 @@
 ghost use mathlib.Core.Path.{_≡_};
 ghost use Prim.Native.Nat.{_≤_};
 ghost use Rattle.orders.specs.Orders.{isBytes, isSend, surplusFlaw, bytesFlaw, numbersFlaw, flawOf};
-use arguments::misfit;
 use commands::Named;
 use commands::Operation;
+use commands::arguments::misfit;
+use commands::signatures::argument_count;
+use commands::signatures::argument_most;
 use shorthand::command_named;
-use signatures::argument_count;
-use signatures::argument_most;
 use text::hex::Case;
 use text::hex::is_hex;
 use text::reading;

@@ -16,7 +16,7 @@ use Rattle.requests.specs.declared.Fault.the-variants.{LongLine, FieldCo
 use Rattle.requests.specs.declared.Flaw.{Flaw}
 use Rattle.requests.specs.declared.Flaw.the-variants.{Clear, Wrong}
 use Rattle.commands.specs.Operations.{count, kinds, operationOf}
-use Rattle.arguments.specs.Arguments.{isNumber, fit}
+use Rattle.commands.specs.Arguments.{isNumber, fit}
 
 abbrev pub orElse : Flaw → Flaw → Flaw
 orElse Clear next = next

@@ -1,10 +1,10 @@
 // Calls as lines of text: whether a line is a call, and what is wrong with it first where it is none.
 ghost use mathlib.Core.Path.{_≡_};
 ghost use Rattle.requests.specs.Flaws.{orElse, checked, isEither, isLent, flagFlaw, bytesFlaw, headFlaw, askedFlaw, lentFlaw, usedFlaw, flawOf};
-use arguments::arguments_fit;
-use arguments::is_number;
 use commands::Named;
 use commands::Operation;
+use commands::arguments::arguments_fit;
+use commands::arguments::is_number;
 use commands::operation_named;
 use text::hex;
 use text::hex::Case;

@@ -4,7 +4,7 @@ use borrow.Author.Needs.{needs}
 use mathlib.Core.Path.{_≡_}
 use denote.Ref.{now}
 use Rattle.commands.specs.Operations.{kinds}
-use Rattle.arguments.specs.Arguments.{misfitFrom}
+use Rattle.commands.specs.Arguments.{misfitFrom}
 use Rattle.orders.specs.Orders.{numbersFlaw}
 use borrow.Author.Tests.{lt-ltb, le-ltb}
 use Rattle.orders.proofs.numbers_flaw.Statement.{statement}
