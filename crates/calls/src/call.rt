@@ -10,6 +10,7 @@ use commands::arguments::count;
 use commands::operation_named;
 use params::board::Board;
 use requests::Flaw;
+use requests::faults;
 use sheets::Variant;
 use text::hex;
 use text::hex::Bytes;
@@ -159,7 +160,7 @@ pub fn answer(line: &[u8], out: &mut [u8]) -> usize
     ensures { λ r. ⌜ Counts r (now (out .exit)) ⌝ }
 {
     match requests::judged(line) {
-        Flaw::Wrong(f) => request_faults::put_fault(f, out, 0),
+        Flaw::Wrong(f) => faults::put_fault(f, out, 0),
         Flaw::Clear => match operation_named(field(line, TAB, 4)) {
             Named::Known(o) => run(o, line, out),
             Named::Unknown => 0,

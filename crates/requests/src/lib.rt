@@ -1,4 +1,4 @@
-// Calls as lines of text: whether a line is a call, and what is wrong with it first where it is none.
+// Whether a line is a call: what is wrong with it, and that in words.
 ghost use mathlib.Core.Path.{_≡_};
 ghost use Rattle.requests.specs.Flaws.{orElse, checked, isEither, isLent, flagFlaw, bytesFlaw, headFlaw, askedFlaw, lentFlaw, usedFlaw, flawOf};
 use commands::Named;
@@ -11,6 +11,8 @@ use text::hex::Case;
 use text::reading;
 use text::reading::field;
 use text::reading::same;
+
+pub mod faults;
 
 const TAB: u8 = b'\t';
 

@@ -1,4 +1,4 @@
--- `request_faults::put_words` meets its contract: each arm is the definition's case.
+-- `requests::faults::put_words` meets its contract: each arm is the definition's case.
 -- Assumes nothing.
 use borrow.Author.Needs.{needs}
 use mathlib.Core.List.{List}
@@ -7,8 +7,8 @@ use native.Mathlib.Omega.{arith}
 use lib.Dec.{T, leb, leb→le}
 use lib.ListN.{length}
 use Rattle.text.specs.Text.{Appended}
-use Rattle.request_faults.proofs.put_words.Statement.{statement}
-use Rattle.request_faults.proofs.put_words.Tie as tie
+use Rattle.requests.proofs.faults.put_words.Statement.{statement}
+use Rattle.requests.proofs.faults.put_words.Tie as tie
 
 -- where a text that is short enough ends
 within : {text out out′ : List ℕ} {at r : ℕ} → T (leb (length text) 300) → Appended text at out r out′ → r ≤ at + 300

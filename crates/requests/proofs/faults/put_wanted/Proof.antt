@@ -1,4 +1,4 @@
--- `request_faults::put_wanted` meets its contract: the table has the operation's arguments at its row.
+-- `requests::faults::put_wanted` meets its contract: the table has the operation's arguments at its row.
 -- Assumes nothing.
 use borrow.Author.Needs.{needs}
 use native.Mathlib.Omega.{arith}
@@ -7,9 +7,9 @@ use denote.Ref.{now}
 use lib.ListN.{length}
 use Rattle.commands.specs.Operations.{arguments}
 use Rattle.text.proofs.printing.Appending.{same, then}
-use Rattle.request_faults.proofs.Table.{at-row, short}
-use Rattle.request_faults.proofs.put_wanted.Statement.{statement}
-use Rattle.request_faults.proofs.put_wanted.Tie as tie
+use Rattle.requests.proofs.faults.Table.{at-row, short}
+use Rattle.requests.proofs.faults.put_wanted.Statement.{statement}
+use Rattle.requests.proofs.faults.put_wanted.Tie as tie
 
 from-table : (c : tie.After-field)
     → now (c .field .result) ≡ arguments (c .before .before .before .before .before .before .before .before .before .before .args .o)

@@ -10,7 +10,7 @@ use Rattle.commands.specs.declared.Operation.{Operation}
 use Rattle.commands.specs.declared.Operation.the-variants.{InitLora, CreateModulationParams, CreatePacketParams, Reset, SetStandby, SetSleep, SetTxRxBufferBaseAddress, SetTxPowerAndRampTime, SetModulationParams, SetPacketParams, SetChannel, SetPayload, DoTx, DoRx, GetRxPayload, GetRxPacketStatus, DoCad, SetIrqParams, ProcessIrqEvent, SetTxContinuousWaveMode, Program, ReadLink}
 use Rattle.commands.specs.Operations.{arguments}
 use Rattle.commands.specs.Rows.{row}
-use Rattle.request_faults.specs.Faults.{table}
+use Rattle.requests.specs.Faults.{table}
 
 pub at-row : (o : Operation) → fieldAt 9 (row o) table ≡ arguments o
 unfolding indexOf indexAfter
