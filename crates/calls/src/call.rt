@@ -57,19 +57,19 @@ fn act_on_registers(
     let v = b.variant;
     match o {
         Operation::CreateModulationParams => {
-            answers::modulation(acts::create_modulation(args, SPACE, v), used, out)
+            answers::modulation(dispatch::create_modulation(args, SPACE, v), used, out)
         }
         Operation::CreatePacketParams => {
-            answers::packet(acts::create_packet(args, SPACE), used, out)
+            answers::packet(dispatch::create_packet(args, SPACE), used, out)
         }
         Operation::ReadLink => answers::link(link::read_link(image, b), used, out),
         Operation::GetRxPacketStatus => {
             answers::measured(sx127x::get_rx_packet_status(image, log, used, v), out)
         }
         Operation::ProcessIrqEvent => {
-            answers::event(acts::event(args, SPACE, image, log, used), out)
+            answers::event(dispatch::event(args, SPACE, image, log, used), out)
         }
-        _ => answers::done(acts::done(o, args, SPACE, b, image, log, used), out),
+        _ => answers::done(dispatch::done(o, args, SPACE, b, image, log, used), out),
     }
 }
 

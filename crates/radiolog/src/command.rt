@@ -60,19 +60,19 @@ fn act_on_registers(
     let v = board.variant;
     match o {
         Operation::CreateModulationParams => {
-            answers::modulation(acts::create_modulation(args, TAB, v), out)
+            answers::modulation(dispatch::create_modulation(args, TAB, v), out)
         }
-        Operation::CreatePacketParams => answers::framing(acts::create_packet(args, TAB), out),
+        Operation::CreatePacketParams => answers::framing(dispatch::create_packet(args, TAB), out),
         Operation::ReadLink => answers::link(link::read_link(image, board), out),
         Operation::GetRxPacketStatus => {
             let a = sx127x::get_rx_packet_status(image, log, 0, v);
             answers::measured(a, log, out)
         }
         Operation::ProcessIrqEvent => {
-            answers::event(acts::event(args, TAB, image, log, 0), log, out)
+            answers::event(dispatch::event(args, TAB, image, log, 0), log, out)
         }
         _ => {
-            let a = acts::done(o, args, TAB, board, image, log, 0);
+            let a = dispatch::done(o, args, TAB, board, image, log, 0);
             answers::done(a, log, out)
         }
     }

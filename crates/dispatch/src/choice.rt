@@ -2,7 +2,7 @@
 ghost use mathlib.Core.List.{[]};
 ghost use Rattle.params.specs.Answers.{tellsDone, usedDone};
 ghost use Rattle.bus.specs.Call.{Meets};
-ghost use Rattle.acts.specs.Acts.{done as doneBy};
+ghost use Rattle.dispatch.specs.Acts.{done as doneBy};
 use crate::lent::do_rx;
 use crate::lent::set_bases;
 use crate::lent::set_irq;

@@ -1,8 +1,8 @@
--- `acts::lent::set_bases` meets its contract: the arguments are what the text says.
+-- `dispatch::lent::set_bases` meets its contract: the arguments are what the text says.
 -- Assumes nothing.
 use borrow.Author.Needs.{needs}
-use Rattle.acts.proofs.lent.set_bases.Statement.{statement}
-use Rattle.acts.proofs.lent.set_bases.Tie as tie
+use Rattle.dispatch.proofs.lent.set_bases.Statement.{statement}
+use Rattle.dispatch.proofs.lent.set_bases.Tie as tie
 
 returns : tie.Need-returns
 returns c =

@@ -1,10 +1,10 @@
--- `acts::lent::set_power` meets its contract: the arguments are what the text says.
+-- `dispatch::lent::set_power` meets its contract: the arguments are what the text says.
 -- Assumes nothing.
 use borrow.Author.Needs.{needs}
 use mir.Syntax.{w32}
 use mir.ValLaws.{toZ-ofZ}
-use Rattle.acts.proofs.lent.set_power.Statement.{statement}
-use Rattle.acts.proofs.lent.set_power.Tie as tie
+use Rattle.dispatch.proofs.lent.set_power.Statement.{statement}
+use Rattle.dispatch.proofs.lent.set_power.Tie as tie
 
 returns : tie.Need-returns
 returns c =

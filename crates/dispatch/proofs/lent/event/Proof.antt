@@ -1,8 +1,8 @@
--- `acts::lent::event` meets its contract: the arguments are what the text says.
+-- `dispatch::lent::event` meets its contract: the arguments are what the text says.
 -- Assumes nothing.
 use borrow.Author.Needs.{needs}
-use Rattle.acts.proofs.lent.event.Statement.{statement}
-use Rattle.acts.proofs.lent.event.Tie as tie
+use Rattle.dispatch.proofs.lent.event.Statement.{statement}
+use Rattle.dispatch.proofs.lent.event.Tie as tie
 
 returns : tie.Need-returns
 returns c =

@@ -1,8 +1,8 @@
--- `acts::lent::do_rx` meets its contract: the arguments are what the text says.
+-- `dispatch::lent::do_rx` meets its contract: the arguments are what the text says.
 -- Assumes nothing.
 use borrow.Author.Needs.{needs}
-use Rattle.acts.proofs.lent.do_rx.Statement.{statement}
-use Rattle.acts.proofs.lent.do_rx.Tie as tie
+use Rattle.dispatch.proofs.lent.do_rx.Statement.{statement}
+use Rattle.dispatch.proofs.lent.do_rx.Tie as tie
 
 returns : tie.Need-returns
 returns c =

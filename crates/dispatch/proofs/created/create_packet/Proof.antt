@@ -1,8 +1,8 @@
--- `acts::created::create_packet` meets its contract: the arguments are what the text says.
+-- `dispatch::created::create_packet` meets its contract: the arguments are what the text says.
 -- Assumes nothing.
 use borrow.Author.Needs.{needs}
-use Rattle.acts.proofs.created.create_packet.Statement.{statement}
-use Rattle.acts.proofs.created.create_packet.Tie as tie
+use Rattle.dispatch.proofs.created.create_packet.Statement.{statement}
+use Rattle.dispatch.proofs.created.create_packet.Tie as tie
 
 returns : tie.Need-returns
 returns c =

@@ -1,11 +1,11 @@
--- `acts::choice::done` meets its contract: each arm is the definition's row, and the last arm has those that answer otherwise.
+-- `dispatch::choice::done` meets its contract: each arm is the definition's row, and the last arm has those that answer otherwise.
 -- Assumes nothing.
 use borrow.Author.Needs.{needs}
 use mathlib.Core.Path.{refl}
-use Rattle.acts.specs.Acts.{done}
-use Rattle.acts.proofs.LastArm.{others}
-use Rattle.acts.proofs.choice.done.Statement.{statement}
-use Rattle.acts.proofs.choice.done.Tie as tie
+use Rattle.dispatch.specs.Acts.{done}
+use Rattle.dispatch.proofs.LastArm.{others}
+use Rattle.dispatch.proofs.choice.done.Statement.{statement}
+use Rattle.dispatch.proofs.choice.done.Tie as tie
 
 returns : tie.Need-returns
 unfolding done
