@@ -1,6 +1,6 @@
 // What was found, beside what the bench says.
 use libc::STDOUT_FILENO;
-use reports::wide;
+use replies::reports::wide;
 use text::digits::put_decimal;
 use text::digits::put_signed;
 use text::hex::Case;

@@ -8,6 +8,10 @@ use params::answers::ModulationAnswer;
 use params::answers::PacketAnswer;
 use params::answers::PayloadAnswer;
 use params::answers::StatusAnswer;
+use replies::link_values;
+use replies::modulation_values;
+use replies::packet_values;
+use replies::reports;
 
 // Where an answer's text ends, and the bytes of the log that are used.
 pub struct Told {

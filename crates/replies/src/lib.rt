@@ -1,4 +1,4 @@
-// What an answer tells, as text: its number and its values, in decimal, a space before each value.
+// The text of an outcome.
 ghost use Prim.Native.Nat.{_+_, _*_, _≤_};
 ghost use mathlib.Core.List.{[], _∷_};
 ghost use lib.ListN.{length};
@@ -9,6 +9,12 @@ use params::mod_params::RadioError;
 use text::digits::put_decimal;
 use text::digits::put_signed;
 use text::printing::put;
+
+pub mod lent;
+pub mod link_values;
+pub mod modulation_values;
+pub mod packet_values;
+pub mod reports;
 
 pub fn put_values(vs: &[u64], out: &mut [u8], at: usize) -> usize
     requires { ⌜ at + 21 * length (now vs) ≤ length (now out) ⌝ }
