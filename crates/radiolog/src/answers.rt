@@ -1,8 +1,6 @@
 // What a call appended and answered, as lines in a lent place. Each function answers where they end.
 ghost use Prim.Native.Nat.{_≤_};
 ghost use lib.ListN.{length};
-use listing::put_records;
-use names::put_refused;
 use params::answers::Answer;
 use params::answers::IrqAnswer;
 use params::answers::LinkAnswer;
@@ -11,6 +9,8 @@ use params::answers::PacketAnswer;
 use params::answers::PayloadAnswer;
 use params::answers::StatusAnswer;
 use params::mod_params::RadioError;
+use radiolog_text::listing::put_records;
+use radiolog_text::names::put_refused;
 use replies::link_values;
 use replies::modulation_values;
 use replies::packet_values;

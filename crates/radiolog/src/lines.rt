@@ -6,10 +6,10 @@ use intake::read_all;
 use libc::STDERR_FILENO;
 use libc::STDIN_FILENO;
 use libc::STDOUT_FILENO;
-use order_faults::put_wrong;
-use orders::Flaw;
-use orders::judged;
 use params::board::Board;
+use radiolog_text::faults::put_wrong;
+use radiolog_text::orders::Flaw;
+use radiolog_text::orders::judged;
 
 fn write(text: &[u8]) -> bool {
     let written = io::write_all(STDOUT_FILENO, text);
