@@ -1,13 +1,15 @@
-// Dumps of a pack's registers: raw bytes or hex text, found out by looking. What an input holds is said by the definitions in specs/.
-mod characters;
-mod hex_text;
-
+// A pack's registers from raw bytes or hex text, and what is wrong with an input.
 ghost use mathlib.Core.Path.{_≡_};
 ghost use lib.ListN.{length};
 ghost use Rattle.dump.specs.Dump.{isRaw, readOf, leftOf};
 use characters::could_be_hex;
-pub use hex_text::Read;
 use hex_text::read_text;
+
+mod characters;
+pub mod faults;
+mod hex_text;
+
+pub use hex_text::Read;
 
 // Raw bytes, and not hex text that happens to be of 128 characters.
 fn is_raw(input: &[u8]) -> bool

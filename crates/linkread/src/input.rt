@@ -4,6 +4,7 @@ use crate::show::write_out;
 use crate::show::write_part;
 use crate::words::Asked;
 use dump::Read;
+use dump::faults;
 use intake::Input;
 use intake::read_all;
 use libc::EACCES;

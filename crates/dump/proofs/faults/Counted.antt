@@ -8,7 +8,7 @@ use native.Mathlib.Numerals.{add-one}
 use lib.Dec.{eqb}
 use lib.ListN.{length, drop, getD}
 use lib.Seq.{drop-cons}
-use Rattle.faults.specs.Spot.{lineFrom, columnFrom}
+use Rattle.dump.specs.Spot.{lineFrom, columnFrom}
 
 module _ (s : List ℕ) (i : ℕ) (h : i < length s) where
   pub line-more : (l : ℕ) → lineFrom l (drop i s) ≡ lineFrom (cond (eqb (getD s i 0) 10) (l + 1) l) (drop (i + 1) s)

@@ -1,10 +1,10 @@
--- `faults::put_count` meets its contract: one text behind another.
+-- `dump::faults::put_count` meets its contract: one text behind another.
 -- Assumes nothing.
 use borrow.Author.Needs.{needs}
 use Rattle.text.proofs.printing.Appending.{then}
 use native.Mathlib.Omega.{arith}
-use Rattle.faults.proofs.put_count.Statement.{statement}
-use Rattle.faults.proofs.put_count.Tie as tie
+use Rattle.dump.proofs.faults.put_count.Statement.{statement}
+use Rattle.dump.proofs.faults.put_count.Tie as tie
 
 returns : tie.Need-returns
 returns c =

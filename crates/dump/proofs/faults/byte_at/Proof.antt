@@ -1,11 +1,11 @@
--- `faults::byte_at` meets its contract: a place past the end has no byte.
+-- `dump::faults::byte_at` meets its contract: a place past the end has no byte.
 -- Assumes nothing.
 use borrow.Author.Needs.{needs}
 use denote.Ref.{now}
 use Rattle.text.proofs.reading.Tests.{past}
 use mathlib.Core.Path.{sym}
-use Rattle.faults.proofs.byte_at.Statement.{statement}
-use Rattle.faults.proofs.byte_at.Tie as tie
+use Rattle.dump.proofs.faults.byte_at.Statement.{statement}
+use Rattle.dump.proofs.faults.byte_at.Tie as tie
 
 returns-2 : tie.Need-returns-2
 returns-2 c = let a = c .before .args in sym (past (now (a .s)) (a .at) (c .if1 .left))

@@ -1,6 +1,6 @@
 // Lines and columns.
 ghost use mathlib.Core.Path.{_≡_};
-ghost use Rattle.faults.specs.Spot.{lineFrom, columnFrom};
+ghost use Rattle.dump.specs.Spot.{lineFrom, columnFrom};
 
 pub struct Spot {
     pub line: usize,

@@ -1,12 +1,12 @@
--- `faults::put_bad` meets its contract: one text behind another.
+-- `dump::faults::put_bad` meets its contract: one text behind another.
 -- Assumes nothing.
 use borrow.Author.Needs.{needs}
 use mathlib.Core.Path.{_≡_}
 use Prim.Native.Nat.{ℕ, _+_, _≤_}
 use Rattle.text.proofs.printing.Appending.{then}
 use native.Mathlib.Omega.{arith}
-use Rattle.faults.proofs.put_bad.Statement.{statement}
-use Rattle.faults.proofs.put_bad.Tie as tie
+use Rattle.dump.proofs.faults.put_bad.Statement.{statement}
+use Rattle.dump.proofs.faults.put_bad.Tie as tie
 
 -- where the words end, from where their parts end
 words-end : (at : ℕ) {a b d e r : ℕ} → a ≡ at + 2 → b ≡ a + 2 → d ≡ b + 28 → e ≤ d + 20 → r ≡ e + 38 → r ≤ at + 100

@@ -1,8 +1,8 @@
--- `faults::spot::spot_behind` meets its contract: line and column of what is left, counted from here, are those of the whole.
+-- `dump::faults::spot::spot_behind` meets its contract: line and column of what is left, counted from here, are those of the whole.
 -- Assumes nothing.
 use borrow.Author.Needs.{needs}
-use Rattle.faults.specs.Spot.{lineFrom, columnFrom}
-use Rattle.faults.proofs.Counted as counted
+use Rattle.dump.specs.Spot.{lineFrom, columnFrom}
+use Rattle.dump.proofs.faults.Counted as counted
 use denote.Ref.{now}
 use lib.ListN.{length, drop, drop-of-length-le}
 use Prim.Native.Nat.{_+_, _-_, _≤_}
@@ -10,8 +10,8 @@ use mathlib.Core.Logic.{⊎-elim}
 use mathlib.Core.Path.{_≡_, refl, sym, _∙_}
 use borrow.Author.Tests.{eq-eqb, ne-eqb}
 use native.Mathlib.Omega.{arith}
-use Rattle.faults.proofs.spot.spot_behind.Statement.{statement}
-use Rattle.faults.proofs.spot.spot_behind.Tie as tie
+use Rattle.dump.proofs.faults.spot.spot_behind.Statement.{statement}
+use Rattle.dump.proofs.faults.spot.spot_behind.Tie as tie
 
 abbrev Inv-loop : tie.InvT-loop
 Inv-loop s line₀ column₀ i₀ line column i = (i ≤ length s) × (line ≤ i + 1) × (column ≤ i + 1) × (lineFrom line (drop i s) ≡ lineFrom 1 s) × (columnFrom column (drop i s) ≡ columnFrom 1 s)

@@ -1,11 +1,11 @@
--- `faults::before` meets its contract: a place past the end leaves the whole text.
+-- `dump::faults::before` meets its contract: a place past the end leaves the whole text.
 -- Assumes nothing.
 use borrow.Author.Needs.{needs}
 use native.Mathlib.Omega.{arith}
 use lib.Seq.{take-all, length-take-le}
 use mathlib.Core.Path.{sym}
-use Rattle.faults.proofs.before.Statement.{statement}
-use Rattle.faults.proofs.before.Tie as tie
+use Rattle.dump.proofs.faults.before.Statement.{statement}
+use Rattle.dump.proofs.faults.before.Tie as tie
 
 slice-aggregate-result : tie.Need-slice-aggregate-result
 slice-aggregate-result c = sym (length-take-le _ _ (omega arith))

@@ -1,12 +1,12 @@
--- `faults::put_place` meets its contract: one text behind another.
+-- `dump::faults::put_place` meets its contract: one text behind another.
 -- Assumes nothing.
 use borrow.Author.Needs.{needs}
 use mathlib.Core.Path.{_≡_}
 use Prim.Native.Nat.{ℕ, _+_, _≤_}
 use Rattle.text.proofs.printing.Appending.{then}
 use native.Mathlib.Omega.{arith}
-use Rattle.faults.proofs.put_place.Statement.{statement}
-use Rattle.faults.proofs.put_place.Tie as tie
+use Rattle.dump.proofs.faults.put_place.Statement.{statement}
+use Rattle.dump.proofs.faults.put_place.Tie as tie
 
 -- where the place ends, from where its parts end
 place-end : (at : ℕ) {a b d e r : ℕ} → a ≡ at + 5 → b ≤ a + 20 → d ≡ b + 9 → e ≤ d + 20 → r ≡ e + 2 → r ≤ at + 60

@@ -1,4 +1,4 @@
--- `faults::put_fault` meets its contract: each arm is the definition's case.
+-- `dump::faults::put_fault` meets its contract: each arm is the definition's case.
 -- Assumes nothing.
 use borrow.Author.Needs.{needs}
 use Rattle.text.proofs.printing.Appending.{then}
@@ -7,8 +7,8 @@ use mathlib.Core.Path.{_≡_}
 use denote.Ref.{now}
 use lib.ListN.{getD}
 use Rattle.text.proofs.printing.Appending.{nothing}
-use Rattle.faults.proofs.put_fault.Statement.{statement}
-use Rattle.faults.proofs.put_fault.Tie as tie
+use Rattle.dump.proofs.faults.put_fault.Statement.{statement}
+use Rattle.dump.proofs.faults.put_fault.Tie as tie
 
 returns : tie.Need-returns
 returns c = (rw (c .enum-told .given .1) (nothing _ _ (omega arith)), omega arith)

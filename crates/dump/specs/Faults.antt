@@ -5,9 +5,9 @@ use lib.ListN.{length, take, getD}
 use Rattle.text.specs.declared.hex.Case.the-variants.{Upper}
 use Rattle.text.specs.Words.{ascii}
 use Rattle.text.specs.Numbers.{decimal, hex}
 use Rattle.dump.specs.declared.hex_text.Read.{Read}
 use Rattle.dump.specs.declared.hex_text.Read.the-variants.{Image, Bytes, Missing, Bad}
-use Rattle.faults.specs.Spot.{lineFrom, columnFrom}
+use Rattle.dump.specs.Spot.{lineFrom, columnFrom}
 
 -- where something stands behind a text
 abbrev pub placeText : List ℕ → List ℕ
