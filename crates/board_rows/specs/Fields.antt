@@ -6,7 +6,7 @@ use Rattle.sheets.specs.declared.Variant.{Variant}
 use Rattle.sheets.specs.declared.Variant.the-variants.{Sx1272, Sx1276}
 use Rattle.params.specs.declared.board.Board.{Board}
 use Rattle.text.specs.Words.{ascii}
-use Rattle.numerals.specs.Numbers.{counted}
+use Rattle.link_lines.specs.Numbers.{counted}
 
 abbrev pub field : ℕ → List ℕ
 field n = counted (ascii "\t") n []

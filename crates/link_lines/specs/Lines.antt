@@ -5,10 +5,10 @@ use Prim.Native.Nat.{ℕ, _+_}
 use Rattle.sheets.specs.Modem.{hertz}
 use Rattle.params.specs.declared.mod_params.Link.{Link}
 use Rattle.text.specs.Words.{ascii}
-use Rattle.frequencies.specs.Frequencies.{kilohertz}
-use Rattle.numerals.specs.Numbers.{counted, choice}
-use Rattle.frequency_lines.specs.Lines.{frequencyLine}
-use Rattle.power_lines.specs.Lines.{powerLine, pinLine}
+use Rattle.link_lines.specs.Frequencies.{kilohertz}
+use Rattle.link_lines.specs.Numbers.{counted, choice}
+use Rattle.link_lines.specs.FrequencyLines.{frequencyLine}
+use Rattle.link_lines.specs.PowerLines.{powerLine, pinLine}
 
 abbrev pub syncLine : Link → List ℕ
 syncLine l = choice (l .«public_network») (ascii "sync word         0x34 (public)\n") (ascii "sync word         0x12 (private)\n")

@@ -3,17 +3,23 @@ ghost use mathlib.Core.List.{_++_};
 ghost use Prim.Native.Nat.{_+_, _≤_};
 ghost use lib.ListN.{length};
 ghost use Rattle.text.specs.Text.{Appended};
-ghost use Rattle.frequency_lines.specs.Lines.{frequencyLine};
+ghost use Rattle.link_lines.specs.FrequencyLines.{frequencyLine};
 ghost use Rattle.link_lines.specs.Lines.{syncLine, bandwidthLine, modemLines, packetLines, linkLines};
-use frequencies::hertz_of;
-use frequencies::put_kilohertz;
-use frequency_lines::put_frequency;
-use numerals::put_choice;
-use numerals::put_counted;
+use crate::frequencies::hertz_of;
+use crate::frequencies::put_kilohertz;
+use crate::frequency::put_frequency;
+use crate::numerals::put_choice;
+use crate::numerals::put_counted;
+use crate::power::put_pin;
+use crate::power::put_power;
 use params::mod_params::Link;
-use power_lines::put_pin;
-use power_lines::put_power;
 use text::printing::put;
+
+pub mod board;
+pub mod frequencies;
+pub mod frequency;
+pub mod numerals;
+pub mod power;
 
 fn put_bandwidth(bw: u8, out: &mut [u8], at: usize) -> usize
     requires { ⌜ at + 60 ≤ length (now out) ⌝ }

@@ -5,7 +5,7 @@ ghost use Rattle.text.specs.Text.{Appended};
 ghost use Rattle.link_rows.specs.Rows.{modemFields, packetFields, lastFields, linkFields};
 use board_rows::put_field;
 use board_rows::put_four;
-use frequencies::hertz_of;
+use link_lines::frequencies::hertz_of;
 use params::mod_params::Link;
 use text::digits::put_signed;
 use text::printing::put;

@@ -3,9 +3,10 @@ ghost use mathlib.Core.Path.{_≡_};
 ghost use Prim.Native.Nat.{_≤_};
 ghost use lib.ListN.{length};
 use crate::words::Asked;
-use board_lines::Oscillator;
 use libc::STDOUT_FILENO;
 use link::read_link;
+use link_lines::board;
+use link_lines::board::Oscillator;
 use params::answers::LinkAnswer;
 use params::board::Board;
 use params::mod_params::Link;
@@ -30,7 +31,7 @@ pub fn write_out(text: &[u8]) -> bool {
 fn print_link(board: Board, o: Oscillator, pa_config: u8, l: Link) {
     let variant = board.variant;
     let mut out = [0u8; 1024];
-    let at = board_lines::put_board(variant, board.tx_boost, o, &mut out, 0);
+    let at = board::put_board(variant, board.tx_boost, o, &mut out, 0);
     let n = link_lines::put_link(board.tx_boost, pa_config, l, &mut out, at);
     write_part(STDOUT_FILENO, &out, n);
 }
@@ -38,7 +39,7 @@ fn print_link(board: Board, o: Oscillator, pa_config: u8, l: Link) {
 fn print_ruled_out(board: Board, o: Oscillator, register: u8, value: u8) {
     let variant = board.variant;
     let mut out = [0u8; 256];
-    let at = board_lines::put_board(variant, board.tx_boost, o, &mut out, 0);
+    let at = board::put_board(variant, board.tx_boost, o, &mut out, 0);
     let n = ruled_out::put_ruled_out(register, value, &mut out, at);
     write_part(STDOUT_FILENO, &out, n);
 }

@@ -2,7 +2,7 @@
 use mathlib.Core.List.{List, _++_}
 use Prim.Native.Nat.{ℕ}
 use Rattle.text.specs.Words.{ascii}
-use Rattle.numerals.specs.Numbers.{byteText}
+use Rattle.link_lines.specs.Numbers.{byteText}
 
 -- both bytes, each behind the words for it
 abbrev pub ruledOut : List ℕ → ℕ → List ℕ → ℕ → List ℕ

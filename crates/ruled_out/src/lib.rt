@@ -3,7 +3,7 @@ ghost use Prim.Native.Nat.{_+_, _≤_};
 ghost use lib.ListN.{length};
 ghost use Rattle.text.specs.Text.{Appended};
 ghost use Rattle.ruled_out.specs.RuledOut.{ruledOut, ruledOutLine, ruledOutFields};
-use numerals::put_byte;
+use link_lines::numerals::put_byte;
 use text::printing::put;
 
 // Each byte behind the words for it.
