@@ -6,7 +6,7 @@ use Rattle.sheets.specs.Modem.{hertz}
 use Rattle.params.specs.declared.mod_params.Link.{Link}
 use Rattle.text.specs.Words.{ascii}
 use Rattle.text.specs.Numbers.{signed}
-use Rattle.board_rows.specs.Fields.{field, fourFields}
+use Rattle.link_rows.specs.Fields.{field, fourFields}
 
 abbrev pub lastFields : ℕ → ℤ → List ℕ
 lastFields iq power = field iq ++ (ascii "\t" ++ (signed power ++ ascii "\n"))

@@ -1,14 +1,17 @@
-// A link as a row of a table: numbers alone, with a tab before each.
+// A link as a row of a table: numbers alone, with a tab before each; and the register that rules a link out.
 ghost use Prim.Native.Nat.{_+_, _≤_};
 ghost use lib.ListN.{length};
 ghost use Rattle.text.specs.Text.{Appended};
 ghost use Rattle.link_rows.specs.Rows.{modemFields, packetFields, lastFields, linkFields};
-use board_rows::put_field;
-use board_rows::put_four;
+use crate::fields::put_field;
+use crate::fields::put_four;
 use link_lines::frequencies::hertz_of;
 use params::mod_params::Link;
 use text::digits::put_signed;
 use text::printing::put;
+
+pub mod fields;
+pub mod ruled_out;
 
 fn put_last(iq_inverted: u8, power: i32, out: &mut [u8], at: usize) -> usize
     requires { ⌜ at + 100 ≤ length (now out) ⌝ }

@@ -7,6 +7,8 @@ use libc::STDOUT_FILENO;
 use link::read_link;
 use link_lines::board;
 use link_lines::board::Oscillator;
+use link_rows::fields;
+use link_rows::ruled_out;
 use params::answers::LinkAnswer;
 use params::board::Board;
 use params::mod_params::Link;
@@ -46,7 +48,7 @@ fn print_ruled_out(board: Board, o: Oscillator, register: u8, value: u8) {
 
 fn print_link_row(name: &[u8], board: Board, l: Link) {
     let mut out = [0u8; 1024];
-    let at = board_rows::put_board_fields(board, 0, &mut out, 0);
+    let at = fields::put_board_fields(board, 0, &mut out, 0);
     let n = link_rows::put_link_fields(l, &mut out, at);
     if write_out(name) {
         write_part(STDOUT_FILENO, &out, n);
@@ -55,7 +57,7 @@ fn print_link_row(name: &[u8], board: Board, l: Link) {
 
 fn print_ruled_out_row(name: &[u8], board: Board, register: u8, value: u8) {
     let mut out = [0u8; 512];
-    let at = board_rows::put_board_fields(board, 27, &mut out, 0);
+    let at = fields::put_board_fields(board, 27, &mut out, 0);
     let n = ruled_out::put_ruled_out_fields(register, value, &mut out, at);
     if write_out(name) {
         write_part(STDOUT_FILENO, &out, n);

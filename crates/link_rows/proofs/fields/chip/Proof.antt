@@ -1,8 +1,8 @@
--- `board_rows::chip` meets its contract: each arm is the definition's case.
+-- `link_rows::fields::chip` meets its contract: each arm is the definition's case.
 -- Assumes nothing.
 use borrow.Author.Needs.{needs}
-use Rattle.board_rows.proofs.chip.Statement.{statement}
-use Rattle.board_rows.proofs.chip.Tie as tie
+use Rattle.link_rows.proofs.fields.chip.Statement.{statement}
+use Rattle.link_rows.proofs.fields.chip.Tie as tie
 
 returns : tie.Need-returns
 returns c = rw (c .enum-told .given .1)

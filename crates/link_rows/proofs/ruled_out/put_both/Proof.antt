@@ -1,10 +1,10 @@
--- `ruled_out::put_both` meets its contract: one text behind another.
+-- `link_rows::ruled_out::put_both` meets its contract: one text behind another.
 -- Assumes nothing.
 use borrow.Author.Needs.{needs}
 use Rattle.text.proofs.printing.Appending.{then}
 use native.Mathlib.Omega.{arith}
-use Rattle.ruled_out.proofs.put_both.Statement.{statement}
-use Rattle.ruled_out.proofs.put_both.Tie as tie
+use Rattle.link_rows.proofs.ruled_out.put_both.Statement.{statement}
+use Rattle.link_rows.proofs.ruled_out.put_both.Tie as tie
 
 returns : tie.Need-returns
 returns c =

@@ -2,7 +2,7 @@
 ghost use Prim.Native.Nat.{_+_, _≤_};
 ghost use lib.ListN.{length};
 ghost use Rattle.text.specs.Text.{Appended};
-ghost use Rattle.ruled_out.specs.RuledOut.{ruledOut, ruledOutLine, ruledOutFields};
+ghost use Rattle.link_rows.specs.RuledOut.{ruledOut, ruledOutLine, ruledOutFields};
 use link_lines::numerals::put_byte;
 use text::printing::put;
 

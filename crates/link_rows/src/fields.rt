@@ -3,7 +3,7 @@ ghost use mathlib.Core.Path.{_≡_};
 ghost use Prim.Native.Nat.{_+_, _≤_};
 ghost use lib.ListN.{length};
 ghost use Rattle.text.specs.Text.{Appended};
-ghost use Rattle.board_rows.specs.Fields.{field, fourFields, chip as chipOf, bit as bitOf, boardFields};
+ghost use Rattle.link_rows.specs.Fields.{field, fourFields, chip as chipOf, bit as bitOf, boardFields};
 use link_lines::numerals::put_counted;
 use params::board::Board;
 use sheets::Variant;

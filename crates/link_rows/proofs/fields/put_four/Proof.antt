@@ -1,10 +1,10 @@
--- `board_rows::put_four` meets its contract: one field behind another.
+-- `link_rows::fields::put_four` meets its contract: one field behind another.
 -- Assumes nothing.
 use borrow.Author.Needs.{needs}
 use Rattle.text.proofs.printing.Appending.{then}
 use native.Mathlib.Omega.{arith}
-use Rattle.board_rows.proofs.put_four.Statement.{statement}
-use Rattle.board_rows.proofs.put_four.Tie as tie
+use Rattle.link_rows.proofs.fields.put_four.Statement.{statement}
+use Rattle.link_rows.proofs.fields.put_four.Tie as tie
 
 returns : tie.Need-returns
 returns c =

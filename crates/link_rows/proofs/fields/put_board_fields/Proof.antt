@@ -1,9 +1,9 @@
--- `board_rows::put_board_fields` meets its contract: four fields, each by its own contract.
+-- `link_rows::fields::put_board_fields` meets its contract: four fields, each by its own contract.
 -- Assumes nothing.
 use borrow.Author.Needs.{needs}
 use native.Mathlib.Omega.{arith}
-use Rattle.board_rows.proofs.put_board_fields.Statement.{statement}
-use Rattle.board_rows.proofs.put_board_fields.Tie as tie
+use Rattle.link_rows.proofs.fields.put_board_fields.Statement.{statement}
+use Rattle.link_rows.proofs.fields.put_board_fields.Tie as tie
 
 returns : tie.Need-returns
 returns c =
