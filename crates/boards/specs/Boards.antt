@@ -3,8 +3,8 @@ use mathlib.Core.Bool.{Bool, true, false}
 use Rattle.sheets.specs.declared.Variant.{Variant}
 use Rattle.sheets.specs.declared.Variant.the-variants.{Sx1272, Sx1276}
 use Rattle.params.specs.declared.board.Board.{Board}
-use Rattle.board_words.specs.declared.Word.{Word}
-use Rattle.board_words.specs.declared.Word.the-variants as word
+use Rattle.boards.specs.declared.words.Word.{Word}
+use Rattle.boards.specs.declared.words.Word.the-variants as word
 use Rattle.boards.specs.declared.Worded.{Worded}
 use Rattle.boards.specs.declared.Worded.the-variants as answer
 

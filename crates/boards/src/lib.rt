@@ -1,11 +1,13 @@
-// Boards by words, as a command line says them: the plain board, and what each word makes of a board.
+// The words that say a board on the command line, and the board that they make.
 ghost use mathlib.Core.Path.{_≡_};
 ghost use Rattle.boards.specs.Boards.{board, plain as plainBoard, worded};
-ghost use Rattle.board_words.specs.Words.{wordOf};
-use board_words::Word;
-use board_words::board_word;
+ghost use Rattle.boards.specs.Words.{wordOf};
+use crate::words::Word;
+use crate::words::board_word;
 use params::board::Board;
 use sheets::Variant;
+
+pub mod words;
 
 pub enum Worded {
     Board(Board),

@@ -3,8 +3,9 @@ mod answers;
 mod command;
 mod lines;
 
-use board_words::Word;
 use boards::Worded;
+use boards::words;
+use boards::words::Word;
 use libc::STDERR_FILENO;
 use libc::STDOUT_FILENO;
 use params::board::Board;
@@ -68,7 +69,7 @@ fn wrong(what: &[u8], text: &[u8]) -> Asked {
 }
 
 fn names_chip(word: &[u8]) -> bool {
-    match board_words::board_word(word) {
+    match words::board_word(word) {
         Word::Sx1272 => true,
         Word::Sx1276 => true,
         _ => false,

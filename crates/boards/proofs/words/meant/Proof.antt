@@ -1,8 +1,8 @@
--- `board_words::meant` meets its contract: the test is the definition's.
+-- `boards::words::meant` meets its contract: the test is the definition's.
 -- Assumes nothing.
 use borrow.Author.Needs.{needs}
-use Rattle.board_words.proofs.meant.Statement.{statement}
-use Rattle.board_words.proofs.meant.Tie as tie
+use Rattle.boards.proofs.words.meant.Statement.{statement}
+use Rattle.boards.proofs.words.meant.Tie as tie
 
 returns : tie.Need-returns
 returns c = rw (← c .before .same .ensures, c .if1 .taken)
