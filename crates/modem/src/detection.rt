@@ -10,7 +10,7 @@ use bus::write_register;
 use params::radio_kind_params::Register;
 
 // RegDetectionOptimize: spreading factor 6 wants its own value, and so does the threshold.
-fn detection_optimize(spreading_factor: u8) -> u8
+pub fn detection_optimize(spreading_factor: u8) -> u8
     ensures { λ r. ⌜ r ≡ detectionOptimize «spreading_factor» ⌝ }
 {
     match spreading_factor {
@@ -19,7 +19,7 @@ fn detection_optimize(spreading_factor: u8) -> u8
     }
 }
 
-fn detection_threshold(spreading_factor: u8) -> u8
+pub fn detection_threshold(spreading_factor: u8) -> u8
     ensures { λ r. ⌜ r ≡ detectionThreshold «spreading_factor» ⌝ }
 {
     match spreading_factor {

@@ -8,7 +8,7 @@ ghost use Rattle.operations.specs.Modem.{inversion};
 use bus::write_register;
 use params::radio_kind_params::Register;
 
-fn invert_iq(iq_inverted: u8) -> u8
+pub fn invert_iq(iq_inverted: u8) -> u8
     ensures { λ r. ⌜ r ≡ invertIq «iq_inverted» ⌝ }
 {
     match iq_inverted {
@@ -17,7 +17,7 @@ fn invert_iq(iq_inverted: u8) -> u8
     }
 }
 
-fn invert_iq2(iq_inverted: u8) -> u8
+pub fn invert_iq2(iq_inverted: u8) -> u8
     ensures { λ r. ⌜ r ≡ invertIq2 «iq_inverted» ⌝ }
 {
     match iq_inverted {

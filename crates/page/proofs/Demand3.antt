@@ -31,17 +31,17 @@ module _ {S : Type 0} where
       let h = both (not (eqb a (p .addr))) (free a ps) f in
       ((λ e. T-not (eqb a (p .addr)) (h .0) (subst (λ (x : ℕ). T (eqb a x)) e (eqb-refl a))), h .1)
 
-  below : (a : ℕ) (ps : List (Place S)) → T (free a ps) → a < 128
+  pub below : (a : ℕ) (ps : List (Place S)) → T (free a ps) → a < 128
   below a [] f = ltb→lt a 128 f
   below a (p ∷ ps) f = below a ps (free-tail a p ps f .1)
 
   -- an address that is none of the places'
-  untouched : (s : S) (a : ℕ) (ps : List (Place S)) (im : List ℕ) → T (free a ps) → getD (writes ps s im) a 0 ≡ getD im a 0
+  pub untouched : (s : S) (a : ℕ) (ps : List (Place S)) (im : List ℕ) → T (free a ps) → getD (writes ps s im) a 0 ≡ getD im a 0
   untouched s a [] im f = refl
   untouched s a (p ∷ ps) im f = let h = free-tail a p ps f in untouched s a ps _ (h .1) ∙ getD-set-other im (p .addr) a _ 0 (h .0)
 
   -- the byte that is left at the first place
-  pub left-first : (s : S) (p : Place S) (ps : List (Place S)) (im : List ℕ) → T (free (p .addr) ps) → Image im
+  left-first : (s : S) (p : Place S) (ps : List (Place S)) (im : List ℕ) → T (free (p .addr) ps) → Image im
       → getD (writes (p ∷ ps) s im) (p .addr) 0 ≡ written p s (getD im (p .addr) 0)
   left-first s p ps im f I =
       let a = below (p .addr) ps f in

@@ -26,3 +26,10 @@ module _ {S : Type 0} where
       let q = getD ps n nowhere in
       ap (λ (b : Bool). pick b p (find (q .addr) ps)) (ne-eqb (q .addr) (p .addr) (other (p .addr) ps (f .0) n (omega arith)))
       ∙ find-own ps (f .1) n (omega arith)
+
+  -- an address that is none of the places'
+  pub find-free : (a : ℕ) (ps : List (Place S)) → T (free a ps) → find a ps ≡ nowhere
+  find-free a [] f = refl
+  find-free a (p ∷ ps) f =
+      let h = free-tail a p ps f in
+      ap (λ (b : Bool). pick b p (find a ps)) (ne-eqb a (p .addr) (h .0)) ∙ find-free a ps (h .1)

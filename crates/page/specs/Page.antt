@@ -47,11 +47,6 @@ module _ {S : Type 0} where
   holds [] s im = true
   holds (p ∷ ps) s im = eqb (written p s (getD im (p .addr) 0)) (getD im (p .addr) 0) && holds ps s im
 
-  -- two images have the same bytes at the places
-  abbrev pub Same : List (Place S) → List ℕ → List ℕ → Type 0
-  Same [] x y = Unit {0}
-  Same (p ∷ ps) x y = (getD x (p .addr) 0 ≡ getD y (p .addr) 0) × Same ps x y
-
   -- the guess t improved by the byte v at a place: by its bits that would not stay
   abbrev pub improved : Place S → ℕ → S → S
   improved p v t = p .learn (v - bitAnd (p .mask t) v) t
@@ -76,9 +71,9 @@ module _ {S : Type 0} where
   Clear [] s = Unit {0}
   Clear (p ∷ ps) s = ((bitAnd (p .mask s) (p .bits s) ≡ 0) × (p .mask s + p .bits s < 256)) × Clear ps s
 
-  -- the place of an address, or one that tells nothing
+  -- the place of an address, or one that is left as it is and tells nothing
   abbrev pub nowhere : Place S
-  nowhere = record { addr = 128; mask = λ s. 0; bits = λ s. 0; learn = λ v t. t }
+  nowhere = record { addr = 128; mask = λ s. 255; bits = λ s. 0; learn = λ v t. t }
 
   abbrev pub find : ℕ → List (Place S) → Place S
   find a [] = nowhere

@@ -1,4 +1,4 @@
--- The tests at the registers looked at so far are those of a page's first places.
+-- The test at a register is whether the values with its own fit a page's first places.
 -- Assumes nothing.
 use mathlib.Core.Path.{_≡_, refl, sym, ap, subst, _∙_}
 use mathlib.Core.Logic.{_↔_}
@@ -11,19 +11,19 @@ use lib.ListN.{length, getD, take}
 use lib.Seq.{take-append-le, getD-take}
 use Rattle.sheets.specs.declared.Variant.{Variant}
 use Rattle.sheets.specs.declared.Variant.the-variants.{Sx1272, Sx1276}
-use Rattle.sheets.specs.Registers.{RegTcxo}
+use Rattle.sheets.specs.Registers.{RegTcxo, RegModemConfig1, RegModemConfig2}
 use Rattle.sheets.specs.Reader.{always, readerOrder}
 use Rattle.sheets.proofs.Sweep.{both, joined}
 use Rattle.params.specs.declared.mod_params.Link.{Link}
 use Rattle.params.specs.declared.board.Board.{Board}
-use Rattle.page.specs.Page.{Image, Place, Reading.found, Reading.notASetting, Same, nowhere, find, improved, program, guess, first, fits, read}
-use Rattle.page.proofs.Prefix.{guess-next, fits-first, refused-early, found-last}
+use Rattle.page.specs.Page.{Image, Place, Reading.found, Reading.notASetting, Holds, nowhere, find, pick, improved, written, guess, first, fits, read}
+use Rattle.page.proofs.Prefix.{guess-next, fits-next, refused-early, found-last}
 use Rattle.page.proofs.Find.{find-own}
 use Rattle.page.specs.Links.{accepted, Accepted}
 use Rattle.page.specs.Lora.{places, blank, placesOf, page}
 use Rattle.page.proofs.Lawful.{lawful}
-use Rattle.page.proofs.Sequence.{whole-programming}
-use Rattle.reader.specs.Tests.{registers, alike, keeps, fitsSoFar}
+use Rattle.page.proofs.Stays.{again, stays-all}
+use Rattle.reader.specs.Tests.{registers, keeps, keepsAgain, fitsAt}
 
 -- ---- the places' addresses are the reader's order
 
@@ -41,11 +41,6 @@ count : (ps : List (Place Link)) → length (addresses ps) ≡ length ps
 count [] = refl
 count (p ∷ ps) = ap suc (count ps)
 
-addresses-take : (n : ℕ) (ps : List (Place Link)) → addresses (take n ps) ≡ take n (addresses ps)
-addresses-take zero ps = refl
-addresses-take (suc n) [] = refl
-addresses-take (suc n) (p ∷ ps) = ap (λ (l : List ℕ). p .addr ∷ l) (addresses-take n ps)
-
 address-at : (ps : List (Place Link)) (i : ℕ) → i < length ps → getD (addresses ps) i 0 ≡ (getD ps i nowhere) .addr
 address-at [] i h = absurd (omega arith)
 address-at (p ∷ ps) zero h = refl
@@ -56,49 +51,18 @@ whole-order : (v : Variant) (tcxo : Bool) (n : ℕ) → n ≤ length (readerOrde
 whole-order v true n h = refl
 whole-order v false n h = take-append-le n (always v) (RegTcxo v ∷ []) h
 
--- ---- images compared at addresses and at places
+-- ---- bytes that a link keeps
 
-alike-same : (ps : List (Place Link)) (x y : List ℕ) → T (alike (addresses ps) x y) ↔ Same ps x y
-alike-same [] x y = ((λ t. tt), (λ e. tt))
-alike-same (p ∷ ps) x y =
-    let a = getD x (p .addr) 0 in
-    let b = getD y (p .addr) 0 in
-    let (forth, back) = alike-same ps x y in (
-      (λ t. let h = both (eqb a b) (alike (addresses ps) x y) t in (eqb→eq a b (h .0), forth (h .1))),
-      (λ (e, s). joined (eqb a b) (alike (addresses ps) x y) (subst (λ (z : ℕ). T (eqb a z)) e (eqb-refl a)) (back s)),
-    )
+equals : (x y : ℕ) → T (eqb x y) ↔ (x ≡ y)
+equals x y = (eqb→eq x y, (λ e. subst (λ (z : ℕ). T (eqb x z)) e (eqb-refl x)))
+
+address-1d : (v : Variant) (boost tcxo : Bool) → (find RegModemConfig1 (places v boost tcxo)) .addr ≡ RegModemConfig1
+address-1d Sx1272 boost tcxo = refl
+address-1d Sx1276 boost tcxo = refl
 
 module _ (b : Board) where
   pub registers-are : registers b ≡ length (placesOf b)
   registers-are = sym (ap length (in-order (b .variant) (b .«tx_boost») (b .«tcxo_used»))) ∙ count (placesOf b)
-
-  first-are : (n : ℕ) → n ≤ registers b → take n (readerOrder (b .variant) true) ≡ addresses (take n (placesOf b))
-  first-are n h =
-      whole-order (b .variant) (b .«tcxo_used») n h
-      ∙ ap (take n) (sym (in-order (b .variant) (b .«tx_boost») (b .«tcxo_used»))) ∙ sym (addresses-take n (placesOf b))
-
-  -- the guess is accepted and programming it leaves the first n values
-  module _ (l : Link) (n : ℕ) (im : List ℕ) (I : Image im) (h : n ≤ registers b) where
-    abbrev At : List ℕ → Type 0
-    At x = T (alike (take n (readerOrder (b .variant) true)) x im)
-
-    kept : Accepted b l → T (keeps b l n im) ↔ Same (take n (placesOf b)) (program (page b) l im) im
-    unfolding keeps
-    kept a =
-        let (forth, back) = alike-same (take n (placesOf b)) (program (page b) l im) im in
-        let left = whole-programming b l im a I in
-        let order = first-are n h in (
-          (λ t. forth (subst (λ (o : List ℕ). T (alike o (program (page b) l im) im)) order (subst At left t))),
-          (λ s. subst At (sym left) (subst (λ (o : List ℕ). T (alike o (program (page b) l im) im)) (sym order) (back s))),
-        )
-
-    pub so-far : l ≡ guess (first (page b) n) im → T (fitsSoFar b l n im) ↔ T (fits (first (page b) n) im)
-    so-far e =
-        let (forth, back) = fits-first (page b) (lawful b) n im I in
-        let Both : Link → Type 0 = λ t. Accepted b t × Same (take n (placesOf b)) (program (page b) t im) im in (
-          (λ t. let (a, k) = both (accepted (b .variant) l) (keeps b l n im) t in back (subst Both e (a, kept a .0 k))),
-          (λ f. let (a, s) = subst Both (sym e) (forth f) in joined (accepted (b .variant) l) (keeps b l n im) a (kept a .1 s)),
-        )
 
   -- the guess from one register more
   module _ (i : ℕ) (h : i < registers b) where
@@ -114,13 +78,54 @@ module _ (b : Board) where
         ∙ ap (λ (l : List ℕ). getD l i 0) (sym (in-order v (b .«tx_boost») (b .«tcxo_used»)))
         ∙ address-at (placesOf b) i (omega (arith, registers-are))
 
+    found-here : find (here .addr) (placesOf b) ≡ here
+    found-here = find-own (placesOf b) (lawful b .own-places) i (omega (arith, registers-are))
+
     pub next-guess : (im : List ℕ) (t : Link) → t ≡ guess (first (page b) i) im
         → let a = getD (readerOrder (b .variant) true) i 0 in improved (find a (placesOf b)) (getD im a 0) t ≡ guess (first (page b) (suc i)) im
     next-guess im t e =
         ap (λ (a : ℕ). improved (find a (placesOf b)) (getD im a 0) t) order-at
-        ∙ ap (λ (p : Place Link). improved p (getD im (here .addr) 0) t) (find-own (placesOf b) (lawful b .own-places) i (omega (arith, registers-are)))
+        ∙ ap (λ (p : Place Link). improved p (getD im (here .addr) 0) t) found-here
         ∙ ap (improved here (getD im (here .addr) 0)) e
         ∙ sym (guess-next (page b) i im nowhere (omega (arith, registers-are)))
+
+    module _ (l : Link) (im : List ℕ) where
+      abbrev register : ℕ
+      register = getD (readerOrder (b .variant) true) i 0
+
+      kept-here : T (keeps b l register im) ↔ (written here l (getD im (here .addr) 0) ≡ getD im (here .addr) 0)
+      unfolding keeps
+      kept-here = rw (order-at, found-here) (equals (written here l (getD im (here .addr) 0)) (getD im (here .addr) 0))
+
+      -- and RegModemConfig1, if it is to be looked at again
+      kept-if : (t : Bool) → T (pick t (keeps b l RegModemConfig1 im) true) ↔ Holds (pick t (find RegModemConfig1 (placesOf b) ∷ []) []) l im
+      unfolding keeps
+      kept-if true =
+          let q = find RegModemConfig1 (placesOf b) in
+          let (forth, back) = equals (written q l (getD im RegModemConfig1 0)) (getD im RegModemConfig1 0) in
+          let Kept : ℕ → Type 0 = λ a. written q l (getD im a 0) ≡ getD im a 0 in
+          let at = address-1d (b .variant) (b .«tx_boost») (b .«tcxo_used») in
+          ((λ t. (subst Kept (sym at) (forth t), tt)), (λ k. back (subst Kept at (k .0))))
+      kept-if false = ((λ t. tt), (λ k. tt))
+
+      kept-again : T (pick (eqb register RegModemConfig2) (keeps b l RegModemConfig1 im) true) ↔ Holds (again (placesOf b) here) l im
+      kept-again = rw order-at (kept-if (eqb (here .addr) RegModemConfig2))
+
+      -- where the values so far fit, one test tells whether they fit with this one
+      pub so-far : Image im → l ≡ guess (first (page b) (suc i)) im → T (fits (first (page b) i) im) → T (fitsAt b l register im) ↔ T (fits (first (page b) (suc i)) im)
+      so-far I e f =
+          let (forth, back) = fits-next (page b) (again (placesOf b)) (lawful b) (stays-all b) i im nowhere I (omega (arith, registers-are)) f in
+          let Both : Link → Type 0 = λ t. Accepted b t × Holds (here ∷ again (placesOf b) here) t im in
+          let one = pick (eqb register RegModemConfig2) (keeps b l RegModemConfig1 im) true in
+          let two = keeps b l register im in (
+            (λ t.
+                let (a, k) = both (accepted (b .variant) l) (keepsAgain b l register im) t in
+                let (m, n) = both one two k in
+                back (subst Both e (a, (kept-here .0 n, kept-again .0 m)))),
+            (λ t.
+                let (a, k) = subst Both (sym e) (forth t) in
+                joined (accepted (b .variant) l) (keepsAgain b l register im) a (joined one two (kept-again .1 (k .1)) (kept-here .1 (k .0)))),
+          )
 
   -- ---- the reader's turns
 

@@ -1,28 +1,28 @@
--- What the reader tests at a register: that the guess from the values so far is accepted, and that programming it leaves them as they are.
+-- What the reader tests at a register: that the guess from the values so far is accepted, and that it leaves the byte there as it is.
 use mathlib.Core.Bool.{Bool, true, _&&_}
-use mathlib.Core.List.{List, [], _∷_}
+use mathlib.Core.List.{List}
 use Prim.Native.Nat.{ℕ}
 use lib.Dec.{eqb}
-use lib.ListN.{length, getD, take}
+use lib.ListN.{length, getD}
+use Rattle.sheets.specs.Registers.{RegModemConfig1, RegModemConfig2}
 use Rattle.sheets.specs.Reader.{readerOrder}
 use Rattle.params.specs.declared.mod_params.Link.{Link}
 use Rattle.params.specs.declared.board.Board.{Board}
-use Rattle.bus.specs.Steps.{imageAfter}
-use Rattle.operations.specs.Programming.{programming}
+use Rattle.page.specs.Page.{pick, written, find}
 use Rattle.page.specs.Links.{accepted}
+use Rattle.page.specs.Lora.{placesOf}
 
 -- how many registers of the order a board has
 abbrev pub registers : Board → ℕ
 registers b = length (readerOrder (b .variant) (b .«tcxo_used»))
 
--- two images hold the same at these addresses
-abbrev pub alike : List ℕ → List ℕ → List ℕ → Bool
-alike [] x y = true
-alike (a ∷ rest) x y = eqb (getD x a 0) (getD y a 0) && alike rest x y
-
--- programming the link over the image leaves the first n registers of the order as they are
+-- the link leaves the byte at an address as it is
 unfoldable pub keeps : Board → Link → ℕ → List ℕ → Bool
-keeps b l n im = alike (take n (readerOrder (b .variant) true)) (imageAfter (programming b l) im) im
+keeps b l a im = eqb (written (find a (placesOf b)) l (getD im a 0)) (getD im a 0)
 
-abbrev pub fitsSoFar : Board → Link → ℕ → List ℕ → Bool
-fitsSoFar b l n im = accepted (b .variant) l && keeps b l n im
+-- and, where that is RegModemConfig2, RegModemConfig1 too
+abbrev pub keepsAgain : Board → Link → ℕ → List ℕ → Bool
+keepsAgain b l a im = pick (eqb a RegModemConfig2) (keeps b l RegModemConfig1 im) true && keeps b l a im
+
+abbrev pub fitsAt : Board → Link → ℕ → List ℕ → Bool
+fitsAt b l a im = accepted (b .variant) l && keepsAgain b l a im

@@ -1,16 +1,13 @@
-// A guess on trial: whether it fits the registers that the reader has looked at so far.
+// A guess on trial: whether it fits the register that the reader has looked at.
 ghost use mathlib.Core.Path.{_≡_};
-ghost use mathlib.Core.Bool.{Bool};
-ghost use Prim.Native.Nat.{_≤_};
-ghost use lib.ListN.{length, take};
-ghost use Rattle.sheets.specs.Reader.{readerOrder};
-ghost use Rattle.refusals.specs.Refusals.{linkRefusal};
-ghost use Rattle.reader.specs.Tests.{registers, alike, keeps, fitsSoFar};
+ghost use Prim.Native.Nat.{_<_};
+ghost use lib.ListN.{length};
+ghost use Rattle.page.specs.Links.{Accepted};
+ghost use Rattle.reader.specs.Tests.{registers, keeps, keepsAgain, fitsAt};
+use crate::acceptance::accepts;
+use crate::bytes_left::byte_left;
 use params::board::Board;
 use params::mod_params::Link;
-use params::mod_params::Verdict;
-use programming::acceptance::link_refusal;
-use programming::writes::write_link;
 use sheets::Variant;
 
 // How many registers of the order a board has.
@@ -25,44 +22,40 @@ pub fn registers(board: Board) -> usize
     }
 }
 
-// Whether the first n registers of the order hold the same in two images.
-fn alike(image: &[u8], again: &[u8], variant: Variant, n: usize) -> bool
-    requires { ⌜ (length (now image) ≡ 128) × (length (now again) ≡ 128) × (n ≤ length (readerOrder variant Bool.true)) ⌝ }
-    ensures { λ r. ⌜ r ≡ alike (take n (readerOrder variant Bool.true)) (now (again .entry)) (now (image .entry)) ⌝ }
+// Whether an accepted link leaves a register as it is.
+fn keeps(image: &[u8], board: Board, link: Link, register: u8) -> bool
+    requires { ⌜ (length (now image) ≡ 128) × (register < 128) ⌝ }
+    requires { ⌜ Accepted board link ⌝ }
+    ensures { λ r. ⌜ r ≡ keeps board link register (now (image .entry)) ⌝ }
 {
-    let mut i = 0;
-    while i < n {
-        let register = variant.reader_order(i) as usize;
-        if again[register] != image[register] {
-            return false;
-        }
-        i += 1;
-    }
-    true
+    let old = image[register as usize];
+    byte_left(board, link, register, old) == old
 }
 
-// Whether programming an accepted link over the image leaves its first n registers as they are.
-fn keeps(image: &[u8], board: Board, link: Link, n: usize) -> bool
-    requires { ⌜ (length (now image) ≡ 128) × (n ≤ registers board) ⌝ }
-    requires { ⌜ linkRefusal (board .variant) link ≡ Verdict.Clear ⌝ }
-    ensures { λ r. ⌜ r ≡ keeps board link n (now (image .entry)) ⌝ }
+// RegModemConfig2 has the spreading factor, which the optimize flag in RegModemConfig1 of the SX1272 depends on: that one is
+// looked at again.
+fn keeps_again(image: &[u8], board: Board, link: Link, register: u8) -> bool
+    requires { ⌜ (length (now image) ≡ 128) × (register < 128) ⌝ }
+    requires { ⌜ Accepted board link ⌝ }
+    ensures { λ r. ⌜ r ≡ keepsAgain board link register (now (image .entry)) ⌝ }
 {
-    let mut again = [0u8; 128];
-    let mut log = [0u8; 90];
-    bytes::copy(image, &mut again);
-    write_link(&mut again, &mut log, 0, board, link);
-    let variant = board.variant;
-    alike(image, &again, variant, n)
+    if register != 0x1e {
+        return keeps(image, board, link, register);
+    }
+    if !keeps(image, board, link, 0x1d) {
+        return false;
+    }
+    keeps(image, board, link, register)
 }
 
-// Whether a guess fits the first n values of the image: it is accepted, and programming it leaves them as they are.
-pub fn fits(image: &[u8], board: Board, guess: Link, n: usize) -> bool
-    requires { ⌜ (length (now image) ≡ 128) × (n ≤ registers board) ⌝ }
-    ensures { λ r. ⌜ r ≡ fitsSoFar board guess n (now (image .entry)) ⌝ }
+// Whether a guess fits a register: it is accepted, and leaves the register as it is.
+pub fn fits(image: &[u8], board: Board, guess: Link, register: u8) -> bool
+    requires { ⌜ (length (now image) ≡ 128) × (register < 128) ⌝ }
+    ensures { λ r. ⌜ r ≡ fitsAt board guess register (now (image .entry)) ⌝ }
 {
     let variant = board.variant;
-    match link_refusal(variant, guess) {
-        Verdict::Refused(_) => false,
-        Verdict::Clear => keeps(image, board, guess, n),
+    if !accepts(variant, guess) {
+        return false;
     }
+    keeps_again(image, board, guess, register)
 }

@@ -15,6 +15,8 @@ use params::mod_params::Link;
 use params::mod_params::RadioError;
 use params::units::Hertz;
 
+pub mod acceptance;
+pub mod bytes_left;
 pub mod fitting;
 pub mod power_shown;
 pub mod registers;
@@ -58,7 +60,7 @@ fn look(image: &[u8], board: Board) -> Seen
         let register = variant.reader_order(i);
         guess = learn(guess, board, register, image[register as usize]);
         i += 1;
-        if !fits(image, board, guess, i) {
+        if !fits(image, board, guess, register) {
             return Seen {
                 guess,
                 examined: i,

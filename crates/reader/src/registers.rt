@@ -3,6 +3,7 @@ ghost use mathlib.Core.Path.{_≡_};
 ghost use Prim.Native.Nat.{_<_, _^_};
 ghost use Rattle.page.specs.Page.{improved, find};
 ghost use Rattle.page.specs.Lora.{tuned, powered, announced, shaped, frf-msb, frf-mid, frf-lsb, pa-config, pa-dac, config-1, config-2, invert-iq, sync-word, placesOf};
+use crate::bytes_left;
 use crate::power_shown::power_shown;
 use crate::power_shown::power_shown_with;
 use params::board::Board;
@@ -86,8 +87,7 @@ fn pa_config(guess: Link, board: Board, value: u8) -> Link
 fn pa_dac(guess: Link, tx_boost: bool, value: u8) -> Link
     ensures { λ r. ⌜ r ≡ pa-dac Variant.Sx1272 «tx_boost» .learn value guess ⌝ }
 {
-    let txp = outputs::sx1272::clamped_power(guess.power, tx_boost);
-    let config = outputs::sx1272::pa_config(txp, tx_boost);
+    let config = bytes_left::pa_config(Variant::Sx1272, tx_boost, guess.power);
     powered(guess, power_shown_with(tx_boost, config, value))
 }
 

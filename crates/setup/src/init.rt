@@ -45,7 +45,7 @@ fn write_tcxo(
     }
 }
 
-fn syncword(is_public_network: u8) -> u8
+pub fn syncword(is_public_network: u8) -> u8
     ensures { λ r. ⌜ r ≡ syncWord «is_public_network» ⌝ }
 {
     match is_public_network {

@@ -2,6 +2,7 @@
 -- Assumes nothing.
 use borrow.Author.Needs.{needs}
 use mathlib.Core.Path.{_≡_, sym, subst, _∙_}
+use mathlib.Core.Logic.{_↔_}
 use mathlib.Core.Bool.{true, false, true≢false}
 use Prim.Native.Nat.{ℕ, _+_, _-_, _≤_, _<_}
 use native.Mathlib.Numerals.{add-one}
@@ -36,13 +37,12 @@ reader-order-requires c κs =
     let b = r .before .before .args .board in
     omega (arith, r .registers .ensures, order-le (b .variant) (b .«tcxo_used»))
 
-shared-slice-read-learn : tie.Need-shared-slice-read-learn Inv-loop μ-loop
-shared-slice-read-learn c =
-    let o = c .before in
-    let r = o .before .before .before .before in
+-- the register that is looked at is in the image
+register-lt : (c : tie.After-reader-order Inv-loop μ-loop) → c .reader-order .result < 128
+register-lt c =
+    let r = c .before .before .before .before in
     let b = r .before .before .args .board in
-    let bound = order-lt (b .variant) (o .before .before .loop .i) (omega (arith, r .registers .ensures, order-le (b .variant) (b .«tcxo_used»))) in
-    omega (arith, o .reader-order .ensures, bound)
+    rw (c .reader-order .ensures) (order-lt (b .variant) (c .before .before .loop .i) (omega (arith, r .registers .ensures, order-le (b .variant) (b .«tcxo_used»))))
 
 -- the guess after one register more
 improved-guess : (c : tie.After-learn Inv-loop μ-loop) → let l = c .before .before .before .before in let a = l .before .before .before .before .args in
@@ -55,6 +55,20 @@ improved-guess c =
     let next = next-guess (a .board) (l .loop .i) (omega (arith, r .registers .ensures)) (now (a .image)) (l .loop .guess) (l .loop .inv .1) in
     rw (add-one (l .loop .i)) ((rw (o .reader-order .ensures) at (c .learn .ensures)) ∙ next)
 
+-- the test at the register tells whether the values with its own fit
+told : (c : tie.After-fits2 Inv-loop μ-loop) → let l = c .before .before .before .before .before in let a = l .before .before .before .before .args in
+    T (c .fits2 .result) ↔ Fit (a .board) (now (a .image)) (l .loop .i + 1)
+told c =
+    let g = c .before in
+    let o = g .before .before in
+    let l = o .before .before in
+    let r = l .before .before in
+    let a = r .before .before .args in
+    let i = l .loop .i in
+    rw (c .fits2 .ensures, o .reader-order .ensures, add-one i)
+    (so-far (a .board) i (omega (arith, r .registers .ensures)) (g .learn .result) (now (a .image)) (image-is (r .before)) (rw (add-one i) at (improved-guess g))
+    (l .loop .inv .2 i (omega arith)))
+
 returns : tie.Need-returns Inv-loop μ-loop
 returns c =
     let g = c .before .before in
@@ -62,8 +76,7 @@ returns c =
     let r = l .before .before in
     let a = r .before .before .args in
     let i = l .loop .i in
-    let unfit : Fit (a .board) (now (a .image)) (i + 1) → ⊥ =
-    λ f. subst T (sym (c .before .fits2 .ensures) ∙ not-true _ (c .if1 .taken)) (so-far (a .board) (g .learn .result) (i + 1) (now (a .image)) (image-is (r .before)) (omega (arith, r .registers .ensures)) (improved-guess g) .1 f) in
+    let unfit : Fit (a .board) (now (a .image)) (i + 1) → ⊥ = λ f. subst T (not-true (c .before .fits2 .result) (c .if1 .taken)) (told (c .before) .1 f) in
     record {
       count = record { within = omega (arith, r .registers .ensures); before = λ n h. l .loop .inv .2 n (omega arith); last = λ f. absurd (unfit f) };
       guess = improved-guess g;
@@ -75,11 +88,7 @@ loop-again : tie.Need-loop-again Inv-loop μ-loop
 loop-again c =
     let g = c .before .before in
     let l = g .before .before .before .before in
-    let r = l .before .before in
-    let a = r .before .before .args in
-    let i = l .loop .i in
-    let here = so-far (a .board) (g .learn .result) (i + 1) (now (a .image)) (image-is (r .before)) (omega (arith, r .registers .ensures)) (improved-guess g) .0
-    (rw (← c .before .fits2 .ensures, not-false (c .before .fits2 .result) (c .if1 .left)) tt) in
+    let here = told (c .before) .0 (rw (not-false (c .before .fits2 .result) (c .if1 .left)) tt) in
     (omega arith, improved-guess g, below-more _ _ (l .loop .inv .2) here)
 
 returns-2 : tie.Need-returns-2 Inv-loop μ-loop
@@ -105,10 +114,10 @@ look-spec =
     loop-holds
     reader-order-requires
     (λ c. search needs)
-    shared-slice-read-learn
+    (λ c. omega (arith, register-lt (c .before)))
     (λ c κs. search needs)
     (λ c. search needs)
-    (λ c κs. search needs)
+    (λ c κs. (search needs, register-lt (c .before .before)))
     returns
     (λ c. search needs)
     loop-again

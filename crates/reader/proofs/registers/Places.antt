@@ -27,7 +27,7 @@ module _ (a : ℕ) (p : Variant → Bool → Place Link)
   by Sx1272 = on-72
   by Sx1276 = on-76
 
-  found-at : (b : Board) → find a (placesOf b) ≡ p (b .variant) (b .«tx_boost»)
+  pub found-at : (b : Board) → find a (placesOf b) ≡ p (b .variant) (b .«tx_boost»)
   found-at b = by (b .variant) (b .«tx_boost») (b .«tcxo_used»)
 
 pub at-06 : (b : Board) → find 0x06 (placesOf b) ≡ L.frf-msb
@@ -80,7 +80,7 @@ abbrev pub Outside : List ℕ → ℕ → Type 0
 Outside [] a = Unit {0}
 Outside (e ∷ es) a = Outside es a × (a ≡ e → ⊥)
 
-abbrev member : ℕ → List ℕ → Bool
+abbrev pub member : ℕ → List ℕ → Bool
 member a [] = false
 member a (e ∷ es) = cond (eqb a e) true (member a es)
 
@@ -89,7 +89,7 @@ abbrev Quiet : List ℕ → List (Place Link) → Type 0
 Quiet es [] = Unit {0}
 Quiet es (p ∷ ps) = (T (member (p .addr) es) ⊎ ((v : ℕ) (t : Link) → p .learn v t ≡ t)) × Quiet es ps
 
-not-member : (es : List ℕ) (a : ℕ) → Outside es a → T (member a es) → ⊥
+pub not-member : (es : List ℕ) (a : ℕ) → Outside es a → T (member a es) → ⊥
 not-member [] a o m = m
 not-member (e ∷ es) a (o, n) m = by (eqb a e) refl (not-member es a o) m
   where

@@ -1,0 +1,155 @@
+// The byte that an accepted link leaves in a register, of the one that is there.
+ghost use mathlib.Core.Path.{_≡_};
+ghost use Prim.Native.Nat.{_<_};
+ghost use lib.Dec.{T};
+ghost use Rattle.sheets.specs.Power.{clamped, paConfig, paDac, ocp};
+ghost use Rattle.page.specs.Page.{written, find};
+ghost use Rattle.page.specs.Links.{accepted, Accepted};
+ghost use Rattle.page.specs.Lora.{config-1, config-2, config-3, placesOf};
+use modem::detection::detection_optimize;
+use modem::detection::detection_threshold;
+use modem::inversion::invert_iq;
+use modem::inversion::invert_iq2;
+use modem::judgements::low_data_rate_optimize;
+use params::board::Board;
+use params::mod_params::Link;
+use setup::init::syncword;
+use setup::ramps::ramp_value;
+use sheets::Variant;
+
+const TCXO_FOR_OSCILLATOR: u8 = 0x10;
+
+fn clamped_power(variant: Variant, tx_boost: bool, power: i32) -> i32
+    ensures { λ r. ⌜ r ≡ clamped variant «tx_boost» power ⌝ }
+{
+    match variant {
+        Variant::Sx1272 => outputs::sx1272::clamped_power(power, tx_boost),
+        Variant::Sx1276 => outputs::sx1276::clamped_power(power, tx_boost),
+    }
+}
+
+pub fn pa_config(variant: Variant, tx_boost: bool, power: i32) -> u8
+    ensures { λ r. ⌜ r ≡ paConfig variant «tx_boost» power ⌝ }
+{
+    let txp = clamped_power(variant, tx_boost, power);
+    match variant {
+        Variant::Sx1272 => outputs::sx1272::pa_config(txp, tx_boost),
+        Variant::Sx1276 => outputs::sx1276::pa_config(txp, tx_boost),
+    }
+}
+
+fn pa_dac(variant: Variant, tx_boost: bool, power: i32) -> u8
+    ensures { λ r. ⌜ r ≡ paDac variant «tx_boost» power ⌝ }
+{
+    let txp = clamped_power(variant, tx_boost, power);
+    outputs::levels::pa_dac(txp, tx_boost)
+}
+
+// The SX1276 alone.
+fn ocp(tx_boost: bool, power: i32) -> u8
+    ensures { λ r. ⌜ r ≡ ocp «tx_boost» power ⌝ }
+{
+    let txp = clamped_power(Variant::Sx1276, tx_boost, power);
+    outputs::sx1276::ocp(txp, tx_boost)
+}
+
+fn config_1_sx1272(link: Link) -> u8
+    requires { ⌜ T (accepted Variant.Sx1272 link) ⌝ }
+    ensures { λ r. ⌜ r ≡ config-1 Variant.Sx1272 .bits link ⌝ }
+{
+    let bw = link.bandwidth;
+    let code = Variant::Sx1272.bandwidth_code(bw);
+    let flag = low_data_rate_optimize(link.spreading_factor, bw);
+    code * 64 + link.coding_rate * 8 + link.implicit_header * 4 + link.crc_on * 2 + flag
+}
+
+fn config_1_sx1276(link: Link) -> u8
+    requires { ⌜ T (accepted Variant.Sx1276 link) ⌝ }
+    ensures { λ r. ⌜ r ≡ config-1 Variant.Sx1276 .bits link ⌝ }
+{
+    let code = Variant::Sx1276.bandwidth_code(link.bandwidth);
+    code * 16 + link.coding_rate * 2 + link.implicit_header
+}
+
+fn config_2_sx1272(link: Link, old: u8) -> u8
+    requires { ⌜ T (accepted Variant.Sx1272 link) ⌝ }
+    ensures { λ r. ⌜ r ≡ written (config-2 Variant.Sx1272) link old ⌝ }
+{
+    (0x0f & old) | (link.spreading_factor * 16)
+}
+
+fn config_2_sx1276(link: Link, old: u8) -> u8
+    requires { ⌜ T (accepted Variant.Sx1276 link) ⌝ }
+    ensures { λ r. ⌜ r ≡ written (config-2 Variant.Sx1276) link old ⌝ }
+{
+    (0x0b & old) | (link.spreading_factor * 16 + link.crc_on * 4)
+}
+
+// The SX1276 alone.
+fn config_3(link: Link, old: u8) -> u8
+    requires { ⌜ T (accepted Variant.Sx1276 link) ⌝ }
+    ensures { λ r. ⌜ r ≡ written config-3 link old ⌝ }
+{
+    let flag = low_data_rate_optimize(link.spreading_factor, link.bandwidth);
+    (0xf3 & old) | (flag * 8)
+}
+
+pub fn byte_left(board: Board, link: Link, register: u8, old: u8) -> u8
+    requires { ⌜ register < 128 ⌝ }
+    requires { ⌜ Accepted board link ⌝ }
+    ensures { λ r. ⌜ r ≡ written (find register (placesOf board)) link old ⌝ }
+{
+    let variant = board.variant;
+    let tx_boost = board.tx_boost;
+    let tcxo_used = board.tcxo_used;
+    let frequency = link.frequency;
+    match register {
+        0x06 => frequency.steps().frf_msb(),
+        0x07 => frequency.steps().frf_mid(),
+        0x08 => frequency.steps().frf_lsb(),
+        0x09 => pa_config(variant, tx_boost, link.power),
+        0x0a => ramp_value(variant, 0),
+        0x0b => match variant {
+            Variant::Sx1272 => old,
+            Variant::Sx1276 => ocp(tx_boost, link.power),
+        },
+        0x0e => 0,
+        0x0f => 0,
+        0x1d => match variant {
+            Variant::Sx1272 => config_1_sx1272(link),
+            Variant::Sx1276 => config_1_sx1276(link),
+        },
+        0x1e => match variant {
+            Variant::Sx1272 => config_2_sx1272(link, old),
+            Variant::Sx1276 => config_2_sx1276(link, old),
+        },
+        0x20 => (link.preamble_length / 256) as u8,
+        0x21 => (link.preamble_length % 256) as u8,
+        0x26 => match variant {
+            Variant::Sx1272 => old,
+            Variant::Sx1276 => config_3(link, old),
+        },
+        0x31 => (0x78 & old) | detection_optimize(link.spreading_factor),
+        0x33 => invert_iq(link.iq_inverted),
+        0x37 => detection_threshold(link.spreading_factor),
+        0x39 => syncword(link.public_network),
+        0x3b => invert_iq2(link.iq_inverted),
+        0x4b => match variant {
+            Variant::Sx1272 => old,
+            Variant::Sx1276 => if tcxo_used { TCXO_FOR_OSCILLATOR } else { old },
+        },
+        0x4d => match variant {
+            Variant::Sx1272 => old,
+            Variant::Sx1276 => pa_dac(Variant::Sx1276, tx_boost, link.power),
+        },
+        0x58 => match variant {
+            Variant::Sx1272 => if tcxo_used { TCXO_FOR_OSCILLATOR } else { old },
+            Variant::Sx1276 => old,
+        },
+        0x5a => match variant {
+            Variant::Sx1272 => pa_dac(Variant::Sx1272, tx_boost, link.power),
+            Variant::Sx1276 => old,
+        },
+        _ => old,
+    }
+}
