@@ -1,10 +1,10 @@
 // What was found, beside what the bench says.
 use libc::STDOUT_FILENO;
-use replies::reports::wide;
-use text::digits::put_decimal;
-use text::digits::put_signed;
+use replies::answers::wide;
 use text::hex::Case;
 use text::printing::put_hex;
+use text::put_decimals::put_decimal;
+use text::put_decimals::put_signed;
 use text::reading;
 
 pub fn text(t: &[u8]) {

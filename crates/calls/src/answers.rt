@@ -8,10 +8,10 @@ use params::answers::ModulationAnswer;
 use params::answers::PacketAnswer;
 use params::answers::PayloadAnswer;
 use params::answers::StatusAnswer;
+use replies::answers;
 use replies::link_values;
 use replies::modulation_values;
 use replies::packet_values;
-use replies::reports;
 
 // Where an answer's text ends, and the bytes of the log that are used.
 pub struct Told {
@@ -23,7 +23,7 @@ pub fn done(a: Answer, out: &mut [u8]) -> Told
     requires { ⌜ 230 ≤ length (now out) ⌝ }
     ensures { λ r. ⌜ r .at ≤ 230 ⌝ }
 {
-    let at = reports::put_done(a, out, 0);
+    let at = answers::put_done(a, out, 0);
     match a {
         Answer::Done(used) => Told { at, used },
         Answer::Refused(_, used) => Told { at, used },
@@ -34,7 +34,7 @@ pub fn received(a: PayloadAnswer, out: &mut [u8]) -> Told
     requires { ⌜ 230 ≤ length (now out) ⌝ }
     ensures { λ r. ⌜ r .at ≤ 230 ⌝ }
 {
-    let at = reports::put_received(a, out, 0);
+    let at = answers::put_received(a, out, 0);
     match a {
         PayloadAnswer::Received(_, used) => Told { at, used },
         PayloadAnswer::Refused(_, used) => Told { at, used },
@@ -45,7 +45,7 @@ pub fn measured(a: StatusAnswer, out: &mut [u8]) -> Told
     requires { ⌜ 230 ≤ length (now out) ⌝ }
     ensures { λ r. ⌜ r .at ≤ 230 ⌝ }
 {
-    let at = reports::put_status(a, out, 0);
+    let at = answers::put_status(a, out, 0);
     match a {
         StatusAnswer::Measured(_, used) => Told { at, used },
         StatusAnswer::Refused(_, used) => Told { at, used },
@@ -56,7 +56,7 @@ pub fn event(a: IrqAnswer, out: &mut [u8]) -> Told
     requires { ⌜ 230 ≤ length (now out) ⌝ }
     ensures { λ r. ⌜ r .at ≤ 230 ⌝ }
 {
-    let at = reports::put_event(a, out, 0);
+    let at = answers::put_event(a, out, 0);
     match a {
         IrqAnswer::Nothing(used) => Told { at, used },
         IrqAnswer::PreambleReceived(used) => Told { at, used },

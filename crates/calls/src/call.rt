@@ -9,7 +9,7 @@ use commands::Operation;
 use commands::arguments::count;
 use commands::operation_named;
 use params::board::Board;
-use replies::lent;
+use replies::left;
 use requests::Flaw;
 use requests::faults;
 use sheets::Variant;
@@ -128,7 +128,7 @@ fn run_over(
 {
     let used = count(field(line, TAB, 10), SPACE, 0);
     let told = act(o, line, used, image, fifo, buffer, log, out);
-    lent::put_left(image, fifo, buffer, log, told.used, out, told.at)
+    left::put_left(image, fifo, buffer, log, told.used, out, told.at)
 }
 
 // Does the call that a line asks and puts its outcome's line into out.

@@ -5,10 +5,10 @@ use Prim.Native.Nat.{ℕ, suc, _+_}
 use lib.Dec.{eqb}
 use lib.IntN.{ℤ, pos}
 use lib.ListN.{length}
-use Rattle.text.specs.declared.decimals.Number.{Number}
-use Rattle.text.specs.declared.decimals.Number.the-variants as number
-use Rattle.text.specs.declared.decimals.Signed.{Signed}
-use Rattle.text.specs.declared.decimals.Signed.the-variants as signed
+use Rattle.text.specs.declared.read_decimals.Number.{Number}
+use Rattle.text.specs.declared.read_decimals.Number.the-variants as number
+use Rattle.text.specs.declared.read_decimals.Signed.{Signed}
+use Rattle.text.specs.declared.read_decimals.Signed.the-variants as signed
 use Rattle.text.specs.Decimal.{numberOf, signedOf}
 use Rattle.text.specs.Fields.{countOf, fieldAt}
 use Rattle.text.specs.Words.{ascii, alike}

@@ -12,10 +12,10 @@ use crate::signatures::POWER;
 use crate::signatures::WORD;
 use crate::signatures::argument_count;
 use crate::signatures::argument_most;
-use text::decimals::Number;
-use text::decimals::Signed;
-use text::decimals::read_number;
-use text::decimals::read_signed;
+use text::read_decimals::Number;
+use text::read_decimals::Signed;
+use text::read_decimals::read_number;
+use text::read_decimals::read_signed;
 use text::reading;
 use text::reading::field;
 

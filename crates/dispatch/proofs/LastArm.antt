@@ -9,7 +9,7 @@ use Rattle.params.specs.declared.board.Board.{Board}
 use Rattle.commands.specs.declared.Operation.{Operation}
 use Rattle.commands.specs.declared.Operation.the-variants.{InitLora, CreateModulationParams, CreatePacketParams, Reset, SetStandby, SetSleep, SetTxRxBufferBaseAddress, SetTxPowerAndRampTime, SetModulationParams, SetPacketParams, SetChannel, SetPayload, DoTx, DoRx, GetRxPayload, GetRxPacketStatus, DoCad, SetIrqParams, ProcessIrqEvent, SetTxContinuousWaveMode, Program, ReadLink}
 use Rattle.commands.proofs.Operation as operation
-use Rattle.dispatch.specs.Acts.{done, idle}
+use Rattle.dispatch.specs.Dispatch.{done, idle}
 
 abbrev pub answeringOtherwise : List ℕ
 answeringOtherwise = 1 ∷ 2 ∷ 11 ∷ 14 ∷ 15 ∷ 18 ∷ 21 ∷ []

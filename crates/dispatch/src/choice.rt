@@ -2,11 +2,11 @@
 ghost use mathlib.Core.List.{[]};
 ghost use Rattle.params.specs.Answers.{tellsDone, usedDone};
 ghost use Rattle.bus.specs.Call.{Meets};
-ghost use Rattle.dispatch.specs.Acts.{done as doneBy};
-use crate::lent::do_rx;
-use crate::lent::set_bases;
-use crate::lent::set_irq;
-use crate::lent::set_power;
+ghost use Rattle.dispatch.specs.Dispatch.{done as doneBy};
+use crate::by_numbers::do_rx;
+use crate::by_numbers::set_bases;
+use crate::by_numbers::set_irq;
+use crate::by_numbers::set_power;
 use commands::Operation;
 use commands::arguments::byte;
 use commands::arguments::hertz;

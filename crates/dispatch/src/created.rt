@@ -1,7 +1,7 @@
 // Calls that are lent nothing: a record is created or refused.
 ghost use mathlib.Core.Path.{_≡_};
 ghost use Rattle.params.specs.Answers.{tellsModulation, tellsPacket};
-ghost use Rattle.dispatch.specs.Acts.{modulationCreated, packetCreated};
+ghost use Rattle.dispatch.specs.Dispatch.{modulationCreated, packetCreated};
 use commands::arguments::byte;
 use commands::arguments::hertz;
 use commands::arguments::word;

@@ -8,10 +8,10 @@ ghost use Rattle.text.specs.Text.{Appended};
 ghost use Rattle.dump.specs.Faults.{placeText, badText, countText, faultText};
 use crate::Read;
 use crate::faults::spot::spot_behind;
-use text::digits::put_decimal;
 use text::hex::Case;
 use text::printing::put;
 use text::printing::put_hex;
+use text::put_decimals::put_decimal;
 
 // The text before a place.
 fn before(s: &[u8], at: usize) -> &[u8]

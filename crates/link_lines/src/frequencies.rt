@@ -6,8 +6,8 @@ ghost use Rattle.sheets.specs.Modem.{hertz};
 ghost use Rattle.text.specs.Text.{Appended};
 ghost use Rattle.link_lines.specs.Frequencies.{twoDigits, sixDigits, megahertz, kilohertz};
 use sheets::bandwidth_hertz;
-use text::digits::put_decimal;
 use text::printing::put;
+use text::put_decimals::put_decimal;
 
 fn put_two_digits(n: u32, out: &mut [u8], at: usize) -> usize
     requires { ⌜ at + 2 ≤ length (now out) ⌝ }

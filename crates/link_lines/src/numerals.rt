@@ -5,10 +5,10 @@ ghost use lib.ListN.{length};
 ghost use Rattle.text.specs.Words.{ascii};
 ghost use Rattle.text.specs.Text.{Appended};
 ghost use Rattle.link_lines.specs.Numbers.{counted, choice, byteText, bytesText};
-use text::digits::put_decimal;
 use text::hex::Case;
 use text::printing::put;
 use text::printing::put_hex;
+use text::put_decimals::put_decimal;
 
 pub fn put_counted(name: &[u8], n: u64, unit: &[u8], out: &mut [u8], at: usize) -> usize
     requires { ⌜ (length (now name) ≤ 24) × (length (now unit) ≤ 16) × (at + 60 ≤ length (now out)) ⌝ }

@@ -3,8 +3,8 @@ ghost use Prim.Native.Nat.{_+_, _≤_, _<_};
 ghost use lib.ListN.{length};
 ghost use Rattle.text.specs.Text.{Appended};
 ghost use Rattle.link_lines.specs.PowerLines.{powerLine, pinLine};
-use text::digits::put_signed;
 use text::printing::put;
+use text::put_decimals::put_signed;
 
 pub fn put_power(power: i32, out: &mut [u8], at: usize) -> usize
     requires { ⌜ at + 50 ≤ length (now out) ⌝ }

@@ -7,8 +7,8 @@ use crate::fields::put_field;
 use crate::fields::put_four;
 use link_lines::frequencies::hertz_of;
 use params::mod_params::Link;
-use text::digits::put_signed;
 use text::printing::put;
+use text::put_decimals::put_signed;
 
 pub mod fields;
 pub mod ruled_out;

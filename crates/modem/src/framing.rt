@@ -9,7 +9,7 @@ ghost use Rattle.bus.specs.Call.{Meets};
 ghost use Rattle.operations.specs.Modem.{preamble, framing, packetRefusal, packetSteps, setPacket};
 ghost use Rattle.operations.proofs.Counts.{framingRecords, packetRecords};
 use crate::inversion::write_inversion;
-use crate::judgements;
+use crate::parameter_refusals;
 use bus::admit::admit;
 use bus::write_register;
 use params::answers::Answer;
@@ -76,7 +76,7 @@ pub fn set_packet_params(
 ) -> Answer
     ensures { λ r. ⌜ Meets (setPacket variant «pkt_params» (now (image .entry)) (now (log .entry)) used) (tellsDone r) (usedDone r) (now (image .exit)) [] (now (log .exit)) [] ⌝ }
 {
-    let asked = judgements::packet_named(
+    let asked = parameter_refusals::packet_named(
         pkt_params.implicit_header,
         pkt_params.crc_on,
         pkt_params.iq_inverted,

@@ -2,6 +2,6 @@
 pub mod detection;
 pub mod framing;
 pub mod inversion;
-pub mod judgements;
 pub mod modulation;
+pub mod parameter_refusals;
 pub mod parameters;

@@ -10,7 +10,7 @@ ghost use Rattle.bus.specs.Call.{Meets};
 ghost use Rattle.operations.specs.Modem.{modem, modulationRefusal, modulationSteps, setModulation};
 ghost use Rattle.operations.proofs.Counts.{modemRecords, modulationRecords};
 use crate::detection::write_detection;
-use crate::judgements;
+use crate::parameter_refusals;
 use bus::admit::admit;
 use params::answers::Answer;
 use params::mod_params::ModulationParams;
@@ -61,9 +61,9 @@ pub fn write_modulation(
 fn modulation_refusal(variant: Variant, p: ModulationParams) -> Verdict
     ensures { λ r. ⌜ r ≡ modulationRefusal variant p ⌝ }
 {
-    let had = judgements::modulation_had(variant, p.spreading_factor, p.bandwidth);
+    let had = parameter_refusals::modulation_had(variant, p.spreading_factor, p.bandwidth);
     let rest = codes::flag(p.low_data_rate_optimize).or(had);
-    judgements::modulation_named(p.spreading_factor, p.bandwidth, p.coding_rate).or(rest)
+    parameter_refusals::modulation_named(p.spreading_factor, p.bandwidth, p.coding_rate).or(rest)
 }
 
 pub fn set_modulation_params(

@@ -2,10 +2,10 @@
 ghost use mathlib.Core.Path.{_≡_};
 ghost use Rattle.params.specs.Answers.{tellsModulation, tellsPacket};
 ghost use Rattle.operations.specs.Modem.{createModulation, createPacket};
-use crate::judgements::low_data_rate_optimize;
-use crate::judgements::modulation_had;
-use crate::judgements::modulation_named;
-use crate::judgements::packet_named;
+use crate::parameter_refusals::low_data_rate_optimize;
+use crate::parameter_refusals::modulation_had;
+use crate::parameter_refusals::modulation_named;
+use crate::parameter_refusals::packet_named;
 use params::answers::ModulationAnswer;
 use params::answers::PacketAnswer;
 use params::mod_params::ModulationParams;

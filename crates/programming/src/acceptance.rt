@@ -2,7 +2,7 @@
 ghost use mathlib.Core.Path.{_≡_};
 ghost use Rattle.refusals.specs.Refusals.{linkRefusal};
 ghost use Rattle.programming.specs.Parts.{linkNamed, linkHad};
-use modem::judgements;
+use modem::parameter_refusals;
 use params::mod_params::Link;
 use params::mod_params::Verdict;
 use refusals::availability;
@@ -14,12 +14,16 @@ use sheets::Variant;
 fn link_named(link: Link) -> Verdict
     ensures { λ r. ⌜ r ≡ linkNamed link ⌝ }
 {
-    let modulation = judgements::modulation_named(
+    let modulation = parameter_refusals::modulation_named(
         link.spreading_factor,
         link.bandwidth,
         link.coding_rate,
     );
-    let packet = judgements::packet_named(link.implicit_header, link.crc_on, link.iq_inverted);
+    let packet = parameter_refusals::packet_named(
+        link.implicit_header,
+        link.crc_on,
+        link.iq_inverted,
+    );
     codes::flag(link.public_network).or(modulation.or(packet))
 }
 
@@ -34,7 +38,7 @@ fn link_had(variant: Variant, link: Link) -> Verdict
     );
     let range = availability::frequency_range(frequency);
     let band = link_refusals::bandwidth_for_frequency(link.bandwidth, frequency);
-    let had = judgements::modulation_had(variant, link.spreading_factor, link.bandwidth);
+    let had = parameter_refusals::modulation_had(variant, link.spreading_factor, link.bandwidth);
     had.or(band.or(header.or(range)))
 }
 

@@ -9,12 +9,12 @@ use params::answers::PacketAnswer;
 use params::answers::PayloadAnswer;
 use params::answers::StatusAnswer;
 use params::mod_params::RadioError;
-use radiolog_text::listing::put_records;
-use radiolog_text::names::put_refused;
+use radiolog_text::log_lines::put_records;
+use radiolog_text::refusal_lines::put_refused;
+use replies::answers;
 use replies::link_values;
 use replies::modulation_values;
 use replies::packet_values;
-use replies::reports;
 use text::hex::Case;
 use text::printing::put;
 use text::printing::put_hex;
@@ -72,7 +72,7 @@ pub fn measured(a: StatusAnswer, log: &[u8], out: &mut [u8]) -> usize
     match a {
         StatusAnswer::Measured(_, used) => {
             let at = begun(log, used, out);
-            let at = reports::put_status(a, out, at);
+            let at = answers::put_status(a, out, at);
             ended(out, at)
         }
         StatusAnswer::Refused(e, used) => refused(e, log, used, out),
@@ -98,7 +98,7 @@ pub fn event(a: IrqAnswer, log: &[u8], out: &mut [u8]) -> usize
         IrqAnswer::Refused(e, _) => refused(e, log, used, out),
         _ => {
             let at = begun(log, used, out);
-            let at = reports::put_event(a, out, at);
+            let at = answers::put_event(a, out, at);
             ended(out, at)
         }
     }
@@ -125,7 +125,7 @@ pub fn received(a: PayloadAnswer, bytes: &[u8], log: &[u8], out: &mut [u8]) -> u
     match a {
         PayloadAnswer::Received(count, used) => {
             let at = begun(log, used, out);
-            let at = reports::put_received(a, out, at);
+            let at = answers::put_received(a, out, at);
             let at = put(b"\t", out, at);
             let at = packet(bytes, count as usize, out, at);
             ended(out, at)

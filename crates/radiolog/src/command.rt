@@ -7,7 +7,7 @@ use commands::Named;
 use commands::Operation;
 use params::answers::Answer;
 use params::board::Board;
-use radiolog_text::shorthand::command_named;
+use radiolog_text::command_words::command_named;
 use text::hex;
 use text::hex::Bytes;
 use text::hex::Case;

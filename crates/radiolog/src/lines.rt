@@ -7,9 +7,9 @@ use libc::STDERR_FILENO;
 use libc::STDIN_FILENO;
 use libc::STDOUT_FILENO;
 use params::board::Board;
+use radiolog_text::command_lines::Flaw;
+use radiolog_text::command_lines::judged;
 use radiolog_text::faults::put_wrong;
-use radiolog_text::orders::Flaw;
-use radiolog_text::orders::judged;
 
 fn write(text: &[u8]) -> bool {
     let written = io::write_all(STDOUT_FILENO, text);

@@ -1,5 +1,5 @@
-pub mod Names
-pub mod Records
-pub mod Shorthand
-pub mod Orders
-pub mod Words
+pub mod RefusalLines
+pub mod LogLines
+pub mod CommandWords
+pub mod CommandLines
+pub mod Faults

@@ -2,11 +2,11 @@
 ghost use Prim.Native.Nat.{_+_, _≤_};
 ghost use lib.ListN.{length};
 ghost use Rattle.text.specs.Text.{Appended};
-ghost use Rattle.radiolog_text.specs.Words.{rangeText, expectedText, placeText, wrongText};
-use crate::orders::Expected;
+ghost use Rattle.radiolog_text.specs.Faults.{rangeText, expectedText, placeText, wrongText};
+use crate::command_lines::Expected;
 use commands::signatures::POWER;
-use text::digits::put_decimal;
 use text::printing::put;
+use text::put_decimals::put_decimal;
 
 fn put_range(most: u64, out: &mut [u8], at: usize) -> usize
     requires { ⌜ at + 60 ≤ length (now out) ⌝ }

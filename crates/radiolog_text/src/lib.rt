@@ -1,6 +1,6 @@
 // radiolog's text: commands in, records out.
+pub mod command_lines;
+pub mod command_words;
 pub mod faults;
-pub mod listing;
-pub mod names;
-pub mod orders;
-pub mod shorthand;
+pub mod log_lines;
+pub mod refusal_lines;

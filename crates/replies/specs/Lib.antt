@@ -1,3 +1,3 @@
 pub mod Answers
 pub mod Link
-pub mod Outcomes
+pub mod Left

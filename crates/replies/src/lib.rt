@@ -6,15 +6,15 @@ ghost use Rattle.params.specs.Errors.{refusal};
 ghost use Rattle.text.specs.Text.{Appended};
 ghost use Rattle.replies.specs.Answers.{plain, valuesText, answerText};
 use params::mod_params::RadioError;
-use text::digits::put_decimal;
-use text::digits::put_signed;
 use text::printing::put;
+use text::put_decimals::put_decimal;
+use text::put_decimals::put_signed;
 
-pub mod lent;
+pub mod answers;
+pub mod left;
 pub mod link_values;
 pub mod modulation_values;
 pub mod packet_values;
-pub mod reports;
 
 pub fn put_values(vs: &[u64], out: &mut [u8], at: usize) -> usize
     requires { ⌜ at + 21 * length (now vs) ≤ length (now out) ⌝ }

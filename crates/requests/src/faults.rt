@@ -9,8 +9,8 @@ ghost use Rattle.requests.specs.Faults.{wanted, words};
 use crate::Fault;
 use commands::Operation;
 use commands::signatures::row_of;
-use text::digits::put_decimal;
 use text::printing::put;
+use text::put_decimals::put_decimal;
 use text::reading::field;
 
 fn put_wanted(o: Operation, out: &mut [u8], at: usize) -> usize

@@ -6,10 +6,10 @@ use lib.Dec.{eqb, leb, ltb}
 use lib.ListN.{length}
 use lib.IntN.{pos, negℤ}
 use Rattle.text.specs.Words.{all}
-use Rattle.text.specs.declared.decimals.Number.{Number}
-use Rattle.text.specs.declared.decimals.Number.the-variants.{Is, NotDigits, Over}
-use Rattle.text.specs.declared.decimals.Signed.{Signed}
-use Rattle.text.specs.declared.decimals.Signed.the-variants as signed
+use Rattle.text.specs.declared.read_decimals.Number.{Number}
+use Rattle.text.specs.declared.read_decimals.Number.the-variants.{Is, NotDigits, Over}
+use Rattle.text.specs.declared.read_decimals.Signed.{Signed}
+use Rattle.text.specs.declared.read_decimals.Signed.the-variants as signed
 
 abbrev pub isDigit : ℕ → Bool
 isDigit b = leb 48 b && leb b 57

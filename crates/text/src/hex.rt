@@ -4,7 +4,7 @@ ghost use mathlib.Core.List.{_++_};
 ghost use Prim.Native.Nat.{_/_, _≤_};
 ghost use lib.ListN.{length, drop};
 ghost use Rattle.text.specs.Hex.{ten as tenOf, isLetter, isNibble, nibble as nibbleOf, hexDigits, bytesOf, bytesRead, bytesLeft};
-use crate::decimals::is_digit;
+use crate::read_decimals::is_digit;
 
 // Which letters stand for the digits from ten on.
 pub enum Case {

@@ -6,7 +6,7 @@ use native.Mathlib.Omega.{arith}
 use denote.Ref.{now}
 use Rattle.text.specs.Fields.{fieldAt}
 use Rattle.commands.specs.Arguments.{argument}
-use Rattle.text.proofs.decimals.Valued.{within}
+use Rattle.text.proofs.read_decimals.Valued.{within}
 use Rattle.commands.proofs.arguments.number.Statement.{statement}
 use Rattle.commands.proofs.arguments.number.Tie as tie
 

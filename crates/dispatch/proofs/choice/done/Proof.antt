@@ -2,7 +2,7 @@
 -- Assumes nothing.
 use borrow.Author.Needs.{needs}
 use mathlib.Core.Path.{refl}
-use Rattle.dispatch.specs.Acts.{done}
+use Rattle.dispatch.specs.Dispatch.{done}
 use Rattle.dispatch.proofs.LastArm.{others}
 use Rattle.dispatch.proofs.choice.done.Statement.{statement}
 use Rattle.dispatch.proofs.choice.done.Tie as tie
