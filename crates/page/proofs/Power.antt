@@ -11,7 +11,7 @@ use Rattle.sheets.specs.Bits.{at, get}
 use Rattle.sheets.specs.Registers.{PaDacReserved, PaDac, OcpOn, OcpTrim}
 use Rattle.sheets.specs.Power.{clamped, strong, outputs, paConfig, paDac, ocp}
 use Rattle.sheets.proofs.Sweep.{sameℤ, sameℤ→eq}
-use Rattle.outputs.proofs.levels.Clamped.{at-clamped, config-of, dac-of, ocp-of}
+use Rattle.tx_power.proofs.levels.Clamped.{at-clamped, config-of, dac-of, ocp-of}
 use Rattle.page.specs.Lora.{shown, shownWith}
 
 -- RegPaDac by the clamped power

@@ -23,8 +23,8 @@ fn clamped_power(variant: Variant, tx_boost: bool, power: i32) -> i32
     ensures { λ r. ⌜ r ≡ clamped variant «tx_boost» power ⌝ }
 {
     match variant {
-        Variant::Sx1272 => outputs::sx1272::clamped_power(power, tx_boost),
-        Variant::Sx1276 => outputs::sx1276::clamped_power(power, tx_boost),
+        Variant::Sx1272 => tx_power::sx1272::clamped_power(power, tx_boost),
+        Variant::Sx1276 => tx_power::sx1276::clamped_power(power, tx_boost),
     }
 }
 
@@ -33,8 +33,8 @@ pub fn pa_config(variant: Variant, tx_boost: bool, power: i32) -> u8
 {
     let txp = clamped_power(variant, tx_boost, power);
     match variant {
-        Variant::Sx1272 => outputs::sx1272::pa_config(txp, tx_boost),
-        Variant::Sx1276 => outputs::sx1276::pa_config(txp, tx_boost),
+        Variant::Sx1272 => tx_power::sx1272::pa_config(txp, tx_boost),
+        Variant::Sx1276 => tx_power::sx1276::pa_config(txp, tx_boost),
     }
 }
 
@@ -42,7 +42,7 @@ fn pa_dac(variant: Variant, tx_boost: bool, power: i32) -> u8
     ensures { λ r. ⌜ r ≡ paDac variant «tx_boost» power ⌝ }
 {
     let txp = clamped_power(variant, tx_boost, power);
-    outputs::levels::pa_dac(txp, tx_boost)
+    tx_power::levels::pa_dac(txp, tx_boost)
 }
 
 // The SX1276 alone.
@@ -50,7 +50,7 @@ fn ocp(tx_boost: bool, power: i32) -> u8
     ensures { λ r. ⌜ r ≡ ocp «tx_boost» power ⌝ }
 {
     let txp = clamped_power(Variant::Sx1276, tx_boost, power);
-    outputs::sx1276::ocp(txp, tx_boost)
+    tx_power::sx1276::ocp(txp, tx_boost)
 }
 
 fn config_1_sx1272(link: Link) -> u8

@@ -9,11 +9,11 @@ ghost use Rattle.operations.specs.Power.{amplifier};
 use crate::registers::Sx1272;
 use bus::modify_register;
 use bus::write_register;
-use outputs::levels::pa_dac;
-use outputs::sx1272::clamped_power;
-use outputs::sx1272::pa_config;
 use params::radio_kind_params::Register;
 use sheets::Variant;
+use tx_power::levels::pa_dac;
+use tx_power::sx1272::clamped_power;
+use tx_power::sx1272::pa_config;
 
 // The optimize flag stands in RegModemConfig1 here, beside bandwidth and coding rate: one access writes the three.
 pub fn set_modulation_params(

@@ -11,12 +11,12 @@ use crate::registers::Sx1276;
 use bus::modify_register;
 use bus::pins::enable_rf_switch_rx;
 use bus::write_register;
-use outputs::levels::pa_dac;
-use outputs::sx1276::clamped_power;
-use outputs::sx1276::ocp;
-use outputs::sx1276::pa_config;
 use params::radio_kind_params::Register;
 use sheets::Variant;
+use tx_power::levels::pa_dac;
+use tx_power::sx1276::clamped_power;
+use tx_power::sx1276::ocp;
+use tx_power::sx1276::pa_config;
 
 // A field at a time, as the Rust does it; the optimize flag with AgcAutoOn cleared.
 pub fn set_modulation_params(

@@ -13,7 +13,7 @@ use mir.Val.{toZ, ofZ}
 use Rattle.sheets.specs.declared.Variant.{Variant}
 use Rattle.sheets.specs.declared.Variant.the-variants.{Sx1272, Sx1276}
 use Rattle.sheets.proofs.Sweep.{at, agree}
-use Rattle.outputs.proofs.levels.Whole.{held}
+use Rattle.tx_power.proofs.levels.Whole.{held}
 use Rattle.page.specs.Lora.{shown, shownWith}
 
 module _ (x : ℕ) (b : x < 256) where

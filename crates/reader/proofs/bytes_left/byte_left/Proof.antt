@@ -4,7 +4,7 @@ use borrow.Author.Needs.{needs}
 use mathlib.Core.Path.{_∙_}
 use native.Mathlib.Omega.{arith}
 use Rattle.sheets.specs.declared.Variant.the-variants.{Sx1272, Sx1276}
-use Rattle.outputs.proofs.levels.Whole.{held}
+use Rattle.tx_power.proofs.levels.Whole.{held}
 use Rattle.reader.proofs.registers.Places.{at-06, at-07, at-08, at-09, at-20, at-21, at-33, at-39}
 use Rattle.reader.proofs.bytes_left.Found.{at-0a, at-0e, at-0f, at-31, at-37, at-3b, absent, unused, outside}
 use Rattle.reader.proofs.bytes_left.byte_left.Statement.{statement}

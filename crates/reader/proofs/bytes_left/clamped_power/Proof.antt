@@ -4,7 +4,7 @@ use borrow.Author.Needs.{needs}
 use mathlib.Core.Path.{_∙_}
 use mir.Syntax.{w32}
 use mir.ValLaws.{toZ-ofZ}
-use Rattle.outputs.proofs.levels.Whole.{held}
+use Rattle.tx_power.proofs.levels.Whole.{held}
 use Rattle.reader.proofs.bytes_left.clamped_power.Statement.{statement}
 use Rattle.reader.proofs.bytes_left.clamped_power.Tie as tie
 

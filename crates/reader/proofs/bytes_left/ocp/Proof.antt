@@ -7,8 +7,8 @@ use mir.Val.{toZ, ofZ}
 use mir.ValLaws.{toZ-ofZ}
 use Rattle.sheets.specs.declared.Variant.the-variants.{Sx1276}
 use Rattle.sheets.specs.Power.{clamped}
-use Rattle.outputs.proofs.levels.Whole.{held}
-use Rattle.outputs.proofs.levels.Clamped.{in-range, ocp-of}
+use Rattle.tx_power.proofs.levels.Whole.{held}
+use Rattle.tx_power.proofs.levels.Clamped.{in-range, ocp-of}
 use Rattle.reader.proofs.bytes_left.ocp.Statement.{statement}
 use Rattle.reader.proofs.bytes_left.ocp.Tie as tie
 

@@ -7,9 +7,9 @@ use mir.Val.{toZ, ofZ}
 use mir.ValLaws.{toZ-ofZ}
 use Rattle.sheets.specs.declared.Variant.the-variants.{Sx1272, Sx1276}
 use Rattle.sheets.specs.Power.{clamped}
-use Rattle.outputs.proofs.levels.Whole.{held}
-use Rattle.outputs.specs.Ranges.{InRange}
-use Rattle.outputs.proofs.levels.Clamped.{in-range, config-of}
+use Rattle.tx_power.proofs.levels.Whole.{held}
+use Rattle.tx_power.specs.Ranges.{InRange}
+use Rattle.tx_power.proofs.levels.Clamped.{in-range, config-of}
 use Rattle.reader.proofs.bytes_left.pa_config.Statement.{statement}
 use Rattle.reader.proofs.bytes_left.pa_config.Tie as tie
 

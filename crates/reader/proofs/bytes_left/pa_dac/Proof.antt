@@ -6,9 +6,9 @@ use mir.Syntax.{w32}
 use mir.Val.{toZ, ofZ}
 use mir.ValLaws.{toZ-ofZ}
 use Rattle.sheets.specs.Power.{clamped}
-use Rattle.outputs.proofs.levels.Whole.{held}
-use Rattle.outputs.proofs.levels.Dac.{dac-in-range}
-use Rattle.outputs.proofs.levels.Clamped.{in-range, dac-of}
+use Rattle.tx_power.proofs.levels.Whole.{held}
+use Rattle.tx_power.proofs.levels.Dac.{dac-in-range}
+use Rattle.tx_power.proofs.levels.Clamped.{in-range, dac-of}
 use Rattle.reader.proofs.bytes_left.pa_dac.Statement.{statement}
 use Rattle.reader.proofs.bytes_left.pa_dac.Tie as tie
 

@@ -4,7 +4,7 @@ use borrow.Author.Needs.{needs}
 use mathlib.Core.Path.{ap, _∙_}
 use native.Mathlib.Omega.{arith}
 use lib.IntN.{ℤ}
-use Rattle.outputs.proofs.levels.Whole.{held}
+use Rattle.tx_power.proofs.levels.Whole.{held}
 use Rattle.page.specs.Lora.{powered}
 use Rattle.reader.proofs.power_shown.Bytes.{with-held}
 use Rattle.reader.proofs.registers.pa_dac.Statement.{statement}

@@ -11,10 +11,10 @@ use Rattle.sheets.specs.Power.{clamped}
 use Rattle.sheets.specs.Registers.{RegPaConfig, RegPaDac}
 use Rattle.bus.specs.Steps.{Done, Write}
 use Rattle.bus.proofs.log.Runs.{then}
-use Rattle.outputs.specs.Ranges.{InRange}
-use Rattle.outputs.proofs.levels.Whole.{held}
-use Rattle.outputs.proofs.levels.Dac.{dac-in-range}
-use Rattle.outputs.proofs.levels.Clamped.{in-range, dac-of, config-of}
+use Rattle.tx_power.specs.Ranges.{InRange}
+use Rattle.tx_power.proofs.levels.Whole.{held}
+use Rattle.tx_power.proofs.levels.Dac.{dac-in-range}
+use Rattle.tx_power.proofs.levels.Clamped.{in-range, dac-of, config-of}
 use Rattle.variants.proofs.sx1272.set_tx_power.Statement.{statement}
 use Rattle.variants.proofs.sx1272.set_tx_power.Tie as tie
 

@@ -8,10 +8,10 @@ use mir.ValLaws.{toZ-ofZ}
 use Rattle.sheets.specs.declared.Variant.the-variants.{Sx1276}
 use Rattle.sheets.specs.Power.{clamped}
 use Rattle.bus.proofs.log.Runs.{then}
-use Rattle.outputs.specs.Ranges.{InRange}
-use Rattle.outputs.proofs.levels.Whole.{held}
-use Rattle.outputs.proofs.levels.Dac.{dac-in-range}
-use Rattle.outputs.proofs.levels.Clamped.{in-range, dac-of, ocp-of, config-of}
+use Rattle.tx_power.specs.Ranges.{InRange}
+use Rattle.tx_power.proofs.levels.Whole.{held}
+use Rattle.tx_power.proofs.levels.Dac.{dac-in-range}
+use Rattle.tx_power.proofs.levels.Clamped.{in-range, dac-of, ocp-of, config-of}
 use Rattle.variants.proofs.sx1276.set_tx_power.Statement.{statement}
 use Rattle.variants.proofs.sx1276.set_tx_power.Tie as tie
 

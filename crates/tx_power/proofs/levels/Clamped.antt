@@ -11,9 +11,9 @@ use lib.Signed.{ltZ, _≤ℤ_, leZ-yes, ltZ-no, ≤ℤ-refl}
 use Rattle.sheets.specs.declared.Variant.{Variant}
 use Rattle.sheets.specs.declared.Variant.the-variants.{Sx1272, Sx1276}
 use Rattle.sheets.specs.Power.{least, most, clamped, paConfig, paDac, ocp}
-use Rattle.outputs.specs.Ranges.{bounded, InRange}
+use Rattle.tx_power.specs.Ranges.{bounded, InRange}
 use Rattle.sheets.proofs.Sweep.{every}
-use Rattle.outputs.proofs.levels.Whole.{Above, above, among-test}
+use Rattle.tx_power.proofs.levels.Whole.{Above, above, among-test}
 
 -- a test that failed
 at-least : (low z : ℤ) → ltZ z low ≡ false → low ≤ℤ z

@@ -2,7 +2,7 @@
 ghost use mathlib.Core.Path.{_≡_};
 ghost use lib.IntN.{pos, _+ℤ_};
 ghost use lib.Signed.{_≤ℤ_};
-ghost use Rattle.outputs.specs.Ranges.{bounded, level, dacBy};
+ghost use Rattle.tx_power.specs.Ranges.{bounded, level, dacBy};
 
 const PA_DAC_20DBM_ON: u8 = 0x87;
 

@@ -1,4 +1,4 @@
--- `outputs::sx1276::ocp` meets its contract: what the bracket gives is the definition at each power of the range.
+-- `tx_power::sx1276::ocp` meets its contract: what the bracket gives is the definition at each power of the range.
 -- Assumes nothing.
 use mathlib.Core.Path.{_≡_}
 use mathlib.Core.Bool.{Bool, true, false, cond}
@@ -10,10 +10,10 @@ use mir.Val.{toZ, ofZ}
 use mir.ValLaws.{toZ-ofZ}
 use Rattle.sheets.specs.declared.Variant.the-variants.{Sx1276}
 use Rattle.sheets.specs.Power.{clamped, ocp}
-use Rattle.outputs.specs.Ranges.{InRange}
-use Rattle.outputs.proofs.levels.Whole.{among}
-use Rattle.outputs.proofs.sx1276.ocp.Statement.{statement}
-use Rattle.outputs.proofs.sx1276.ocp.Tie as tie
+use Rattle.tx_power.specs.Ranges.{InRange}
+use Rattle.tx_power.proofs.levels.Whole.{among}
+use Rattle.tx_power.proofs.sx1276.ocp.Statement.{statement}
+use Rattle.tx_power.proofs.sx1276.ocp.Tie as tie
 
 abbrev told : Bool → ℤ → ℕ
 told true z = cond (ltZ z (pos 18)) 0x2b (cond (ltZ z (pos 21)) 0x3b 0x2b)

@@ -1,4 +1,4 @@
--- `outputs::levels::clamp` meets its contract: what an i32 is read back from its bits as is the number itself, so the tests are the definition's.
+-- `tx_power::levels::clamp` meets its contract: what an i32 is read back from its bits as is the number itself, so the tests are the definition's.
 -- Assumes nothing.
 use mathlib.Core.Path.{_≡_, _∙_}
 use mathlib.Core.Bool.{Bool}
@@ -7,8 +7,8 @@ use lib.Signed.{ltZ}
 use mir.Syntax.{w32}
 use mir.Val.{SFits, toZ, ofZ}
 use mir.ValLaws.{toZ-ofZ}
-use Rattle.outputs.proofs.levels.clamp.Statement.{statement}
-use Rattle.outputs.proofs.levels.clamp.Tie as tie
+use Rattle.tx_power.proofs.levels.clamp.Statement.{statement}
+use Rattle.tx_power.proofs.levels.clamp.Tie as tie
 
 plain : {y z : ℤ} {t : Bool} → SFits w32 y → SFits w32 z → ltZ (toZ w32 (ofZ w32 y)) (toZ w32 (ofZ w32 z)) ≡ t → ltZ y z ≡ t
 plain {y} {z} f g e = rw (toZ-ofZ w32 y f, toZ-ofZ w32 z g) at e

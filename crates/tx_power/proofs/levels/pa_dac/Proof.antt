@@ -1,4 +1,4 @@
--- `outputs::levels::pa_dac` meets its contract: each bracket is a case of the definition.
+-- `tx_power::levels::pa_dac` meets its contract: each bracket is a case of the definition.
 -- Assumes nothing.
 use mathlib.Core.Path.{_≡_}
 use mathlib.Core.Bool.{true, false}
@@ -7,9 +7,9 @@ use lib.Signed.{ltZ}
 use mir.Syntax.{w32}
 use mir.Val.{toZ, ofZ}
 use mir.ValLaws.{toZ-ofZ}
-use Rattle.outputs.specs.Ranges.{dacBy}
-use Rattle.outputs.proofs.levels.pa_dac.Statement.{statement}
-use Rattle.outputs.proofs.levels.pa_dac.Tie as tie
+use Rattle.tx_power.specs.Ranges.{dacBy}
+use Rattle.tx_power.proofs.levels.pa_dac.Statement.{statement}
+use Rattle.tx_power.proofs.levels.pa_dac.Tie as tie
 
 -- the power as the machine holds it
 held : (c : tie.Start) → let a = c .args in dacBy (a .tx-boost) (toZ w32 (ofZ w32 (a .txp))) ≡ dacBy (a .tx-boost) (a .txp)

@@ -1,4 +1,4 @@
--- `outputs::levels::level` meets its contract: a power that is held to a range of at most 256 lies at most 255 above its least.
+-- `tx_power::levels::level` meets its contract: a power that is held to a range of at most 256 lies at most 255 above its least.
 -- Assumes nothing.
 use borrow.Author.Needs.{needs}
 use mathlib.Core.Path.{_≡_, sym, subst}
@@ -7,11 +7,11 @@ use lib.IntN.{ℤ, pos, _-ℤ_}
 use mir.Syntax.{w32}
 use mir.Val.{SFits, toZ, ofZ}
 use mir.ValLaws.{toZ-ofZ, toZ-pos}
-use Rattle.outputs.specs.Ranges.{bounded, level}
-use Rattle.outputs.proofs.levels.Whole.{held, Above, above-is}
-use Rattle.outputs.proofs.levels.Clamped.{bounded-above}
-use Rattle.outputs.proofs.levels.level.Statement.{statement}
-use Rattle.outputs.proofs.levels.level.Tie as tie
+use Rattle.tx_power.specs.Ranges.{bounded, level}
+use Rattle.tx_power.proofs.levels.Whole.{held, Above, above-is}
+use Rattle.tx_power.proofs.levels.Clamped.{bounded-above}
+use Rattle.tx_power.proofs.levels.level.Statement.{statement}
+use Rattle.tx_power.proofs.levels.level.Tie as tie
 
 -- how far the power lies above the least
 far : (c : tie.Start) → Above (c .args .least) (bounded (c .args .least) (c .args .most) (c .args .p)) 255

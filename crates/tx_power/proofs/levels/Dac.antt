@@ -6,8 +6,8 @@ use lib.IntN.{ℤ, pos, negsuc}
 use Rattle.sheets.specs.declared.Variant.{Variant}
 use Rattle.sheets.specs.declared.Variant.the-variants.{Sx1272, Sx1276}
 use Rattle.sheets.specs.Power.{clamped, paDac}
-use Rattle.outputs.specs.Ranges.{InRange, dacBy}
-use Rattle.outputs.proofs.levels.Whole.{among}
+use Rattle.tx_power.specs.Ranges.{InRange, dacBy}
+use Rattle.tx_power.proofs.levels.Whole.{among}
 
 pub dac-in-range : (v : Variant) (boost : Bool) (c : ℤ) → InRange v boost c → dacBy boost c ≡ paDac v boost c
 unfolding paDac clamped

@@ -1,7 +1,0 @@
-// What the outputs of each variant do with a power in dBm: the power that they take, and their registers then.
-pub mod levels;
-pub mod sx1272;
-pub mod sx1276;
-
-// PaSelect, for the pin PA_BOOST.
-const PA_BOOST: u8 = 0x80;
