@@ -5,8 +5,6 @@ use crate::show::write_part;
 use crate::words::Asked;
 use dump::Read;
 use dump::faults;
-use intake::Input;
-use intake::read_all;
 use libc::EACCES;
 use libc::EISDIR;
 use libc::ENOENT;
@@ -14,6 +12,8 @@ use libc::STDERR_FILENO;
 use libc::STDIN_FILENO;
 use libc::STDOUT_FILENO;
 use text::reading::same;
+use whole_input::Input;
+use whole_input::read_all;
 
 fn voice(a: Asked) -> i32 {
     if a.aloud {
