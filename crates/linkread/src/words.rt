@@ -1,6 +1,6 @@
 // What the command line asks: a board, a form, files.
-use boards::words::Word;
-use boards::words::board_word;
+use board_words::words::Word;
+use board_words::words::board_word;
 use libc::STDERR_FILENO;
 use text::reading::same;
 

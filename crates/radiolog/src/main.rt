@@ -3,9 +3,9 @@ mod answers;
 mod command;
 mod lines;
 
-use boards::Worded;
-use boards::words;
-use boards::words::Word;
+use board_words::Worded;
+use board_words::words;
+use board_words::words::Word;
 use libc::STDERR_FILENO;
 use libc::STDOUT_FILENO;
 use params::board::Board;
@@ -82,7 +82,7 @@ fn with_word(said: Said, word: &[u8]) -> Asked {
         return wrong(b"two chips", b" are named\n");
     }
     let old = said.board;
-    match boards::with_word(old, word) {
+    match board_words::with_word(old, word) {
         Worded::Board(board) => Asked::Commands(Said {
             board,
             chip: chip || said.chip,
@@ -106,7 +106,7 @@ fn with_argument(said: Said, i: usize) -> Asked {
 // The words are looked at in turn, up to one that is wrong or asks for help.
 fn board_asked() -> Asked {
     let count = os::arg_count();
-    let board = boards::plain();
+    let board = board_words::plain();
     let mut said = Said { board, chip: false };
     let mut i = 1;
     while i < count {

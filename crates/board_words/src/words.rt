@@ -2,7 +2,7 @@
 ghost use mathlib.Core.Path.{_≡_};
 ghost use mathlib.Core.Bool.{cond};
 ghost use Rattle.text.specs.Words.{alike};
-ghost use Rattle.boards.specs.Words.{wordOf};
+ghost use Rattle.board_words.specs.Words.{wordOf};
 use text::reading::same;
 
 pub enum Word {

@@ -1,8 +1,8 @@
--- `boards::with_word` meets its contract: each arm is one clause of the definition.
+-- `board_words::with_word` meets its contract: each arm is one clause of the definition.
 -- Assumes nothing.
 use borrow.Author.Needs.{needs}
-use Rattle.boards.proofs.with_word.Statement.{statement}
-use Rattle.boards.proofs.with_word.Tie as tie
+use Rattle.board_words.proofs.with_word.Statement.{statement}
+use Rattle.board_words.proofs.with_word.Tie as tie
 
 returns : tie.Need-returns
 returns c = rw (← c .before .before .board-word .ensures, c .enum-told6 .given .1)

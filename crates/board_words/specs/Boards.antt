@@ -3,10 +3,10 @@ use mathlib.Core.Bool.{Bool, true, false}
 use Rattle.sheets.specs.declared.Variant.{Variant}
 use Rattle.sheets.specs.declared.Variant.the-variants.{Sx1272, Sx1276}
 use Rattle.params.specs.declared.board.Board.{Board}
-use Rattle.boards.specs.declared.words.Word.{Word}
-use Rattle.boards.specs.declared.words.Word.the-variants as word
-use Rattle.boards.specs.declared.Worded.{Worded}
-use Rattle.boards.specs.declared.Worded.the-variants as answer
+use Rattle.board_words.specs.declared.words.Word.{Word}
+use Rattle.board_words.specs.declared.words.Word.the-variants as word
+use Rattle.board_words.specs.declared.Worded.{Worded}
+use Rattle.board_words.specs.declared.Worded.the-variants as answer
 
 abbrev pub board : Variant → Bool → Bool → Bool → Board
 board v tcxo boost rx = record { variant = v; «tcxo_used» = tcxo; «tx_boost» = boost; «rx_boost» = rx }

@@ -3,8 +3,8 @@ use mathlib.Core.Bool.{cond}
 use mathlib.Core.List.{List, [], _∷_}
 use Prim.Native.Nat.{ℕ}
 use Rattle.text.specs.Words.{ascii, alike}
-use Rattle.boards.specs.declared.words.Word.{Word}
-use Rattle.boards.specs.declared.words.Word.the-variants.{Sx1272, Sx1276, Tcxo, Boost, RxBoost, Other}
+use Rattle.board_words.specs.declared.words.Word.{Word}
+use Rattle.board_words.specs.declared.words.Word.the-variants.{Sx1272, Sx1276, Tcxo, Boost, RxBoost, Other}
 
 -- a word and what it means
 abbrev pub table : List (List ℕ × Word)

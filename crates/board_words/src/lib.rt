@@ -1,7 +1,7 @@
 // The words that say a board on the command line, and the board that they make.
 ghost use mathlib.Core.Path.{_≡_};
-ghost use Rattle.boards.specs.Boards.{board, plain as plainBoard, worded};
-ghost use Rattle.boards.specs.Words.{wordOf};
+ghost use Rattle.board_words.specs.Boards.{board, plain as plainBoard, worded};
+ghost use Rattle.board_words.specs.Words.{wordOf};
 use crate::words::Word;
 use crate::words::board_word;
 use params::board::Board;

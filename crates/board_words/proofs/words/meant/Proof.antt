@@ -1,8 +1,8 @@
--- `boards::words::meant` meets its contract: the test is the definition's.
+-- `board_words::words::meant` meets its contract: the test is the definition's.
 -- Assumes nothing.
 use borrow.Author.Needs.{needs}
-use Rattle.boards.proofs.words.meant.Statement.{statement}
-use Rattle.boards.proofs.words.meant.Tie as tie
+use Rattle.board_words.proofs.words.meant.Statement.{statement}
+use Rattle.board_words.proofs.words.meant.Tie as tie
 
 returns : tie.Need-returns
 returns c = rw (← c .before .same .ensures, c .if1 .taken)

@@ -1,9 +1,9 @@
--- `boards::words::board_word` meets its contract: each line is one row of the table.
+-- `board_words::words::board_word` meets its contract: each line is one row of the table.
 -- Assumes nothing.
 use borrow.Author.Needs.{needs}
-use Rattle.boards.specs.Words.{wordOf}
-use Rattle.boards.proofs.words.board_word.Statement.{statement}
-use Rattle.boards.proofs.words.board_word.Tie as tie
+use Rattle.board_words.specs.Words.{wordOf}
+use Rattle.board_words.proofs.words.board_word.Statement.{statement}
+use Rattle.board_words.proofs.words.board_word.Tie as tie
 
 returns : tie.Need-returns
 unfolding wordOf
