@@ -8,7 +8,7 @@ ghost use Rattle.params.specs.Answers.{tellsIrq, usedIrq};
 ghost use Rattle.bus.specs.Steps.{Done, endAfter};
 ghost use Rattle.bus.specs.Call.{Meets};
 ghost use Rattle.operations.specs.Interrupts.{looking, processIrq};
-ghost use Rattle.operations.proofs.Counts.{lookingRecords};
+ghost use Rattle.operations.specs.Records.{lookingRecords};
 use crate::modes::event_refusal;
 use crate::modes::mode_or_sleep;
 use crate::outcome::irq_answer;

@@ -7,7 +7,7 @@ ghost use Rattle.params.specs.Answers.{tellsDone, usedDone};
 ghost use Rattle.bus.specs.Steps.{Done};
 ghost use Rattle.bus.specs.Call.{Meets};
 ghost use Rattle.operations.specs.Modem.{preamble, framing, packetRefusal, packetSteps, setPacket};
-ghost use Rattle.operations.proofs.Counts.{framingRecords, packetRecords};
+ghost use Rattle.operations.specs.Records.{framingRecords, packetRecords};
 use crate::inversion::write_inversion;
 use crate::parameter_refusals;
 use bus::admit::admit;

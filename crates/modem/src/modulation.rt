@@ -8,7 +8,7 @@ ghost use Rattle.params.specs.Answers.{tellsDone, usedDone};
 ghost use Rattle.bus.specs.Steps.{Done};
 ghost use Rattle.bus.specs.Call.{Meets};
 ghost use Rattle.operations.specs.Modem.{modem, modulationRefusal, modulationSteps, setModulation};
-ghost use Rattle.operations.proofs.Counts.{modemRecords, modulationRecords};
+ghost use Rattle.operations.specs.Records.{modemRecords, modulationRecords};
 use crate::detection::write_detection;
 use crate::parameter_refusals;
 use bus::admit::admit;

@@ -1,13 +1,10 @@
-// What calls that take parameters share with those that make them: how a modulation and a packet are judged, and the optimize flag.
+// What refuses a modulation and a packet, for the calls that take them as for those that make them.
 ghost use mathlib.Core.Path.{_≡_};
-ghost use Prim.Native.Nat.{_≤_, _<_};
-ghost use Rattle.sheets.specs.Modem.{optimize};
 ghost use Rattle.operations.specs.Modem.{modulationNamed, modulationHad, packetNamed};
 use params::mod_params::Verdict;
 use refusals::availability;
 use refusals::codes;
 use sheets::Variant;
-use sheets::bandwidth_hertz;
 
 // 8 for each code of a modulation.
 pub fn modulation_named(spreading_factor: u8, bandwidth: u8, coding_rate: u8) -> Verdict
@@ -31,14 +28,4 @@ pub fn packet_named(implicit_header: u8, crc_on: u8, iq_inverted: u8) -> Verdict
 {
     let others = codes::flag(crc_on).or(codes::flag(iq_inverted));
     codes::flag(implicit_header).or(others)
-}
-
-// A symbol of more than 16 ms, by the Rust's two divisions.
-pub fn low_data_rate_optimize(spreading_factor: u8, bandwidth: u8) -> u8
-    requires { ⌜ («spreading_factor» ≤ 12) × (bandwidth < 10) ⌝ }
-    ensures { λ r. ⌜ r ≡ optimize «spreading_factor» bandwidth ⌝ }
-{
-    let bw_in_hz = bandwidth_hertz(bandwidth);
-    let symbol_duration = 1000 / (bw_in_hz / (1u32 << spreading_factor));
-    if symbol_duration > 16 { 1 } else { 0 }
 }

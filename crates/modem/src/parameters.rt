@@ -2,7 +2,7 @@
 ghost use mathlib.Core.Path.{_≡_};
 ghost use Rattle.params.specs.Answers.{tellsModulation, tellsPacket};
 ghost use Rattle.operations.specs.Modem.{createModulation, createPacket};
-use crate::parameter_refusals::low_data_rate_optimize;
+use crate::low_data_rate::low_data_rate_optimize;
 use crate::parameter_refusals::modulation_had;
 use crate::parameter_refusals::modulation_named;
 use crate::parameter_refusals::packet_named;

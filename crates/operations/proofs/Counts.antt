@@ -14,6 +14,7 @@ use Rattle.params.specs.declared.mod_params.Link.{Link}
 use Rattle.params.specs.declared.board.Board.{Board}
 use Rattle.bus.specs.Steps.{Makes, Quiet}
 use Rattle.bus.proofs.log.Runs.{makes-then}
+use Rattle.operations.specs.Records.{oscillatorRecords, initRecords, modulationRecords, framingRecords, packetRecords, powerRecords, measuringRecords, lookingRecords, programRecords}
 use Rattle.operations.specs.Setup.{oscillator, network, bases, initialization, channel}
 use Rattle.operations.specs.Modem.{modulation, framing, packet}
 use Rattle.operations.specs.Power.{power}
@@ -22,16 +23,9 @@ use Rattle.operations.specs.Packets.{sending, fetching, measuring}
 use Rattle.operations.specs.Interrupts.{preparing, looking}
 use Rattle.operations.specs.Programming.{programming, linkModulation, linkPacket}
 
-abbrev pub oscillatorRecords : Bool → ℕ
-oscillatorRecords true = 1
-oscillatorRecords false = 0
-
 pub oscillator-count : (v : Variant) (tcxo : Bool) → Makes (oscillator v tcxo) (oscillatorRecords tcxo)
 oscillator-count v true im at = omega arith
 oscillator-count v false im at = omega arith
-
-abbrev pub initRecords : Bool → ℕ
-initRecords tcxo = oscillatorRecords tcxo + 3
 
 pub init-count : (v : Variant) (tcxo : Bool) (public : ℕ) → Makes (oscillator v tcxo ++ (network public ++ bases)) (initRecords tcxo)
 init-count v true public im at = omega arith
@@ -47,13 +41,6 @@ bases-count im at = omega arith
 pub channel-count : (hz : ℕ) → Makes (channel hz) 3
 channel-count hz im at = omega arith
 
-abbrev pub modemRecords : Variant → ℕ
-modemRecords Sx1272 = 4
-modemRecords Sx1276 = 8
-
-abbrev pub modulationRecords : Variant → ℕ
-modulationRecords v = 3 + modemRecords v
-
 pub modulation-count : (v : Variant) (sf bw cr flag : ℕ) → Makes (modulation v sf bw cr flag) (modulationRecords v)
 modulation-count Sx1272 sf bw cr flag im at = omega arith
 modulation-count Sx1276 sf bw cr flag im at = omega arith
@@ -62,16 +49,9 @@ pub modulation-quiet : (v : Variant) (sf bw cr flag : ℕ) → Quiet (modulation
 modulation-quiet Sx1272 sf bw cr flag im = refl
 modulation-quiet Sx1276 sf bw cr flag im = refl
 
-abbrev pub framingRecords : Variant → ℕ
-framingRecords Sx1272 = 2
-framingRecords Sx1276 = 4
-
 pub framing-count : (v : Variant) (implicit crc : ℕ) → Makes (framing v implicit crc) (framingRecords v)
 framing-count Sx1272 implicit crc im at = omega arith
 framing-count Sx1276 implicit crc im at = omega arith
-
-abbrev pub packetRecords : Variant → ℕ
-packetRecords v = 4 + framingRecords v
 
 pub packet-count : (v : Variant) (n implicit crc iq : ℕ) → Makes (packet v n implicit crc iq) (packetRecords v)
 packet-count Sx1272 n implicit crc iq im at = omega arith
@@ -80,10 +60,6 @@ packet-count Sx1276 n implicit crc iq im at = omega arith
 pub packet-quiet : (v : Variant) (n implicit crc iq : ℕ) → Quiet (packet v n implicit crc iq)
 packet-quiet Sx1272 n implicit crc iq im = refl
 packet-quiet Sx1276 n implicit crc iq im = refl
-
-abbrev pub powerRecords : Variant → ℕ
-powerRecords Sx1272 = 3
-powerRecords Sx1276 = 4
 
 pub power-count : (v : Variant) (boost : Bool) (p : ℤ) (prep : ℕ) → Makes (power v boost p prep) (powerRecords v)
 power-count Sx1272 boost p prep im at = omega arith
@@ -120,10 +96,6 @@ sending-count bytes im at = omega arith
 pub fetching-count : (start n : ℕ) → Makes (fetching start n) 5
 fetching-count start n im at = omega arith
 
-abbrev pub measuringRecords : Variant → ℕ
-measuringRecords Sx1272 = 2
-measuringRecords Sx1276 = 5
-
 pub measuring-count : (v : Variant) → Makes (measuring v) (measuringRecords v)
 measuring-count Sx1272 im at = omega arith
 measuring-count Sx1276 im at = omega arith
@@ -135,10 +107,6 @@ measuring-quiet Sx1276 im = refl
 pub preparing-count : (a : Activity) → Makes (preparing a) 4
 preparing-count a im at = omega arith
 
-abbrev pub lookingRecords : ℕ → ℕ
-lookingRecords zero = 1
-lookingRecords (suc c) = 2
-
 pub looking-count : (clear : ℕ) → Makes (looking clear) (lookingRecords clear)
 looking-count zero im at = omega arith
 looking-count (suc c) im at = omega arith
@@ -146,10 +114,6 @@ looking-count (suc c) im at = omega arith
 pub looking-quiet : (clear : ℕ) → Quiet (looking clear)
 looking-quiet zero im = refl
 looking-quiet (suc c) im = refl
-
--- 29 on the SX1276 and 22 on the SX1272, one more with TCXO
-abbrev pub programRecords : Variant → Bool → ℕ
-programRecords v tcxo = initRecords tcxo + (3 + (modulationRecords v + (packetRecords v + powerRecords v)))
 
 pub program-count : (b : Board) (l : Link) → Makes (programming b l) (programRecords (b .variant) (b .«tcxo_used»))
 program-count b l =

@@ -29,6 +29,7 @@ use Rattle.operations.specs.Modes.{standby, sleep, resetting, transmissi
 use Rattle.operations.specs.Packets.{measuring, measured}
 use Rattle.operations.specs.Interrupts.{preparing, activityOf, irqRefusal, looking, eventRefusal, eventTold}
 use Rattle.operations.specs.Programming.{programming}
+use Rattle.operations.specs.Records.{initRecords, modulationRecords, packetRecords, powerRecords, measuringRecords, lookingRecords, programRecords}
 use Rattle.operations.proofs.Counts as count
 
 -- an operation that has nothing to tell
@@ -36,7 +37,7 @@ abbrev plain : Verdict → (s : List Step) (n : ℕ) → Makes s n → Quiet s �
 plain v s n m q = record { asked = v; tells = well; steps = s; records = n; makes = m; quiet = q }
 
 abbrev pub init-op : Board → ℕ → Operation
-init-op b public = plain (flag public) (initialization b public) (count.initRecords (b .«tcxo_used»)) (count.init-count (b .variant) (b .«tcxo_used») public)
+init-op b public = plain (flag public) (initialization b public) (initRecords (b .«tcxo_used»)) (count.init-count (b .variant) (b .«tcxo_used») public)
     (count.init-quiet (b .variant) (b .«tcxo_used») public)
 
 abbrev pub bases-op : ℕ → ℕ → Operation
@@ -47,18 +48,18 @@ channel-op hz = plain Clear (channel hz) 3 (count.channel-count hz) (λ im. refl
 
 abbrev pub modulation-op : Variant → ModulationParams → Operation
 modulation-op v m =
-    plain (modulationRefusal v m) (modulationSteps v m) (count.modulationRecords v)
+    plain (modulationRefusal v m) (modulationSteps v m) (modulationRecords v)
     (count.modulation-count v (m .«spreading_factor») (m .bandwidth) (m .«coding_rate») (m .«low_data_rate_optimize»))
     (count.modulation-quiet v (m .«spreading_factor») (m .bandwidth) (m .«coding_rate») (m .«low_data_rate_optimize»))
 
 abbrev pub packet-op : Variant → PacketParams → Operation
 packet-op v p =
-    plain (packetRefusal p) (packetSteps v p) (count.packetRecords v)
+    plain (packetRefusal p) (packetSteps v p) (packetRecords v)
     (count.packet-count v (p .«preamble_length») (p .«implicit_header») (p .«crc_on») (p .«iq_inverted»))
     (count.packet-quiet v (p .«preamble_length») (p .«implicit_header») (p .«crc_on») (p .«iq_inverted»))
 
 abbrev pub power-op : Board → ℤ → ℕ → Operation
-power-op b p prep = plain (flag prep) (power (b .variant) (b .«tx_boost») p prep) (count.powerRecords (b .variant)) (count.power-count (b .variant) (b .«tx_boost») p prep)
+power-op b p prep = plain (flag prep) (power (b .variant) (b .«tx_boost») p prep) (powerRecords (b .variant)) (count.power-count (b .variant) (b .«tx_boost») p prep)
     (count.power-quiet (b .variant) (b .«tx_boost») p prep)
 
 abbrev pub standby-op : Operation
@@ -83,7 +84,7 @@ abbrev pub carrier-op : Variant → Operation
 carrier-op v = plain (carrier v) carrierTest 6 count.carrier-count (λ im. refl)
 
 abbrev pub status-op : Variant → List ℕ → Operation
-status-op v im = record { asked = Clear; tells = measured v im; steps = measuring v; records = count.measuringRecords v; makes = count.measuring-count v; quiet = count.measuring-quiet v }
+status-op v im = record { asked = Clear; tells = measured v im; steps = measuring v; records = measuringRecords v; makes = count.measuring-count v; quiet = count.measuring-quiet v }
 
 abbrev pub irq-op : ModeCode → Operation
 irq-op m = plain (irqRefusal m) (preparing (activityOf m)) 4 (count.preparing-count (activityOf m)) (λ im. refl)
@@ -93,11 +94,11 @@ event-op m clear im = record {
   asked = or (flag clear) (eventRefusal m);
   tells = eventTold (event (activityOf m) (getD im RegIrqFlags 0));
   steps = looking clear;
-  records = count.lookingRecords clear;
+  records = lookingRecords clear;
   makes = count.looking-count clear;
   quiet = count.looking-quiet clear;
 }
 
 abbrev pub program-op : Board → Link → Operation
 program-op b l =
-    plain (linkRefusal (b .variant) l) (programming b l) (count.programRecords (b .variant) (b .«tcxo_used»)) (count.program-count b l) (count.program-quiet b l)
+    plain (linkRefusal (b .variant) l) (programming b l) (programRecords (b .variant) (b .«tcxo_used»)) (count.program-count b l) (count.program-quiet b l)

@@ -5,3 +5,4 @@ pub mod Modes
 pub mod Packets
 pub mod Interrupts
 pub mod Programming
+pub mod Records

@@ -10,7 +10,7 @@ use modem::detection::detection_optimize;
 use modem::detection::detection_threshold;
 use modem::inversion::invert_iq;
 use modem::inversion::invert_iq2;
-use modem::parameter_refusals::low_data_rate_optimize;
+use modem::low_data_rate::low_data_rate_optimize;
 use params::board::Board;
 use params::mod_params::Link;
 use setup::init::syncword;

@@ -8,7 +8,7 @@ ghost use Rattle.params.specs.Answers.{tellsDone, usedDone};
 ghost use Rattle.bus.specs.Steps.{Done};
 ghost use Rattle.bus.specs.Call.{Meets};
 ghost use Rattle.operations.specs.Setup.{oscillator, initialization, initLora};
-ghost use Rattle.operations.proofs.Counts.{oscillatorRecords, initRecords};
+ghost use Rattle.operations.specs.Records.{oscillatorRecords, initRecords};
 use crate::bases::write_bases;
 use bus::admit::admit;
 use bus::write_register;

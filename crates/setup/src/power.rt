@@ -7,7 +7,7 @@ ghost use Rattle.params.specs.Answers.{tellsDone, usedDone};
 ghost use Rattle.bus.specs.Steps.{Done};
 ghost use Rattle.bus.specs.Call.{Meets};
 ghost use Rattle.operations.specs.Power.{amplifier, power, setPower};
-ghost use Rattle.operations.proofs.Counts.{powerRecords};
+ghost use Rattle.operations.specs.Records.{powerRecords};
 use crate::ramps::ramp_value;
 use bus::admit::admit;
 use bus::write_register;

@@ -1,7 +1,7 @@
 // How many records a call appends, where the variant, the board or an argument decides it; a call looks for their room before it starts.
 ghost use mathlib.Core.Path.{_≡_};
 ghost use Prim.Native.Nat.{_<_};
-ghost use Rattle.operations.proofs.Counts.{initRecords, modulationRecords, packetRecords, powerRecords, measuringRecords, lookingRecords, programRecords};
+ghost use Rattle.operations.specs.Records.{initRecords, modulationRecords, packetRecords, powerRecords, measuringRecords, lookingRecords, programRecords};
 use params::board::Board;
 use sheets::Variant;
 

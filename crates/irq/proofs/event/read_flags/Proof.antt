@@ -5,7 +5,7 @@ use mathlib.Core.Path.{_≡_, refl}
 use Prim.Native.Nat.{ℕ, zero, suc, _-_, _≤_}
 use native.Mathlib.Omega.{arith}
 use Rattle.bus.proofs.log.Runs.{then}
-use Rattle.operations.proofs.Counts.{lookingRecords}
+use Rattle.operations.specs.Records.{lookingRecords}
 use Rattle.irq.proofs.event.read_flags.Statement.{statement}
 use Rattle.irq.proofs.event.read_flags.Tie as tie
 

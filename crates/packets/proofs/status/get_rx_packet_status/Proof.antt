@@ -12,7 +12,8 @@ use Rattle.sheets.specs.declared.Variant.the-variants.{Sx1272, Sx1276}
 use Rattle.bus.specs.Steps.{endAfter}
 use Rattle.bus.proofs.admit.Calls.{Decided, decided}
 use Rattle.operations.specs.Packets.{measuring}
-use Rattle.operations.proofs.Counts.{measuringRecords, measuring-count}
+use Rattle.operations.specs.Records.{measuringRecords}
+use Rattle.operations.proofs.Counts.{measuring-count}
 use Rattle.operations.proofs.Operations.{status-op}
 use Rattle.packets.proofs.status.get_rx_packet_status.Statement.{statement}
 use Rattle.packets.proofs.status.get_rx_packet_status.Tie as tie

@@ -6,7 +6,8 @@ use Prim.Native.Nat.{_+_, _*_}
 use native.Mathlib.Omega.{arith}
 use denote.Ref.{now}
 use Rattle.bus.proofs.log.Runs.{then}
-use Rattle.operations.proofs.Counts.{initRecords, init-count}
+use Rattle.operations.specs.Records.{initRecords}
+use Rattle.operations.proofs.Counts.{init-count}
 use Rattle.programming.proofs.writes.write_link.Statement.{statement}
 use Rattle.programming.proofs.writes.write_link.Tie as tie
 

@@ -6,7 +6,8 @@ use Prim.Native.Nat.{_+_, _*_}
 use native.Mathlib.Omega.{arith}
 use denote.Ref.{now}
 use Rattle.bus.proofs.log.Runs.{then}
-use Rattle.operations.proofs.Counts.{oscillatorRecords, oscillator-count}
+use Rattle.operations.specs.Records.{oscillatorRecords}
+use Rattle.operations.proofs.Counts.{oscillator-count}
 use Rattle.setup.proofs.init.write_init.Statement.{statement}
 use Rattle.setup.proofs.init.write_init.Tie as tie
 

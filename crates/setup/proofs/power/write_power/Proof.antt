@@ -16,7 +16,7 @@ use Rattle.sheets.specs.declared.Variant.the-variants.{Sx1272, Sx1276}
 use Rattle.bus.specs.Steps.{endAfter}
 use Rattle.bus.proofs.log.Runs.{then}
 use Rattle.operations.specs.Power.{amplifier}
-use Rattle.operations.proofs.Counts.{powerRecords}
+use Rattle.operations.specs.Records.{powerRecords}
 use Rattle.setup.proofs.power.write_power.Statement.{statement}
 use Rattle.setup.proofs.power.write_power.Tie as tie
 

@@ -4,7 +4,7 @@ use borrow.Author.Needs.{needs}
 use mathlib.Core.Path.{_≡_, refl}
 use Prim.Native.Nat.{ℕ, zero, suc, _<_}
 use native.Mathlib.Omega.{arith}
-use Rattle.operations.proofs.Counts.{lookingRecords}
+use Rattle.operations.specs.Records.{lookingRecords}
 use Rattle.variants.proofs.records.event_records.Statement.{statement}
 use Rattle.variants.proofs.records.event_records.Tie as tie
 

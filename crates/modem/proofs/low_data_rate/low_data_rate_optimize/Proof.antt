@@ -1,4 +1,4 @@
--- `modem::parameter_refusals::low_data_rate_optimize` meets its contract: every bandwidth has more than 2^12 Hz, so no divisor is 0.
+-- `modem::low_data_rate::low_data_rate_optimize` meets its contract: every bandwidth has more than 2^12 Hz, so no divisor is 0.
 -- Assumes nothing.
 use borrow.Author.Needs.{needs}
 use mathlib.Core.Path.{_≡_}
@@ -9,8 +9,8 @@ use lib.Dec.{ltb, ltb→lt}
 use Rattle.sheets.specs.Modem.{bandwidths, hertz, symbolTime, optimize}
 use lib.Pow.{pow-pos}
 use Rattle.sheets.proofs.Sweep.{every, at, equal}
-use Rattle.modem.proofs.parameter_refusals.low_data_rate_optimize.Statement.{statement}
-use Rattle.modem.proofs.parameter_refusals.low_data_rate_optimize.Tie as tie
+use Rattle.modem.proofs.low_data_rate.low_data_rate_optimize.Statement.{statement}
+use Rattle.modem.proofs.low_data_rate.low_data_rate_optimize.Tie as tie
 
 wide : (sf bw : ℕ) → sf ≤ 12 → bw < 10 → 0 < hertz bw / 2 ^ sf
 unfolding bandwidths
