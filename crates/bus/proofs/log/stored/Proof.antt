@@ -2,11 +2,13 @@
 -- Assumes nothing.
 use borrow.Author.Needs.{needs}
 use borrow.Author.Tests.{ne-eqb}
+use mathlib.Core.Path.{_≡_}
+use Rattle.sheets.specs.Registers.{RegIrqFlags}
 use Rattle.bus.proofs.log.stored.Statement.{statement}
 use Rattle.bus.proofs.log.stored.Tie as tie
 
 returns : tie.Need-returns
-returns c = rw (c .match .keys1)
+returns c = let flags : c .before .args .addr ≡ RegIrqFlags = c .match .keys1 in rw flags
 
 returns-2 : tie.Need-returns-2
 returns-2 c = simp (ne-eqb _ _ (c .match .rest .1))
