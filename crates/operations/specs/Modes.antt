@@ -49,7 +49,7 @@ detecting boost = RfSwitch receive ∷ Write RegLna (lna boost) ∷ Write RegOpM
 abbrev pub waiting : ℕ → List Step
 waiting w = Put SymbTimeoutMsb (windowMsb w) ∷ Write RegSymbTimeoutLsb (windowLsb w) ∷ []
 
--- the FIFO from its start, packets of any length
+-- the FIFO from its start, packets of any length; with an implicit header, too, the Rust writes 255 for the length
 abbrev pub listening : Bool → ℕ → List Step
 listening boost m = Write RegLna (lna boost) ∷ Write RegFifoAddrPtr 0 ∷ Write RegPayloadLength 255 ∷ Write RegOpMode m ∷ []
 

@@ -13,7 +13,7 @@ use Rattle.refusals.specs.Refusals.{flag, baseAddresses}
 use Rattle.bus.specs.Steps.{Step, Write}
 use Rattle.bus.specs.Call.{Outcome, call, well}
 
--- the oscillator's input is turned on where the board has one
+-- the oscillator's input is turned on where the board has one; the register's other bits become 0, the Rust's way
 abbrev pub oscillator : Variant → Bool → List Step
 oscillator v true = Write (RegTcxo v) (at (TcxoInputOn v) 1) ∷ []
 oscillator v false = []

@@ -27,7 +27,7 @@ pub fn write_window(image: &mut [u8], log: &mut [u8], at: usize, symbol_num: u16
     write_register(image, log, at, Register::RegSymbTimeoutLsb, symbol_num_lsb)
 }
 
-// A FIFO from its start, and packets of any length.
+// A FIFO from its start, and packets of any length; the Rust does not look at the header here.
 pub fn write_listening(
     image: &mut [u8],
     log: &mut [u8],

@@ -19,7 +19,8 @@ shutOut receiving = 255 - (mask RxDone + mask RxTimeout + mask PayloadCrcError +
 shutOut detecting = 255 - (mask CadDone + mask CadDetected)
 shutOut other = 255
 
--- RegDioMapping1: DIO0 tells RxDone (0), TxDone (1) or CadDone (2), and ValidHeader is told by DIO3 (1)
+-- RegDioMapping1: DIO0 tells RxDone (0), TxDone (1) or CadDone (2), and ValidHeader is told by DIO3 (1); the Rust's 3 for any
+-- other activity tells nothing
 abbrev pub mappingKeeps : Activity → ℕ
 mappingKeeps receiving = 255 - (mask Dio0Mapping + mask Dio3Mapping)
 mappingKeeps transmitting = others Dio0Mapping

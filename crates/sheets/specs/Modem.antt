@@ -62,7 +62,7 @@ detectionThreshold sf = cond (eqb sf 6) 0x0c 0x0a
 
 -- ---- IQ: a flag is 0 or 1
 
--- inverted in receive where the flag is 1, and in transmit (the Rust's way) where it is 0
+-- the Rust's way: the bit of the receive path where the flag is 1, that of the transmit path, which is set after a reset, where it is 0
 abbrev pub invertIq : ℕ → ℕ
 invertIq zero = at InvertIqReserved 0x13 + at InvertIqTx 1
 invertIq (suc f) = at InvertIqReserved 0x13 + at InvertIqRx 1
