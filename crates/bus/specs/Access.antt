@@ -6,7 +6,7 @@ use Prim.Native.Nat.{ℕ, zero, suc, _+_, _%_}
 use lib.Dec.{eqb}
 use lib.ListN.{length, getD, set, drop}
 use Rattle.sheets.specs.Interrupts.{cleared}
-use Rattle.sheets.specs.Registers.{RegIrqFlags, RegFifoAddrPtr}
+use Rattle.sheets.specs.Registers.{RegFifo, RegIrqFlags, RegFifoAddrPtr}
 
 -- Kinds 0 to 6, in this order.
 pub data Access : Type 0 where
@@ -38,8 +38,8 @@ kind (sleepWrite a v) = 6
 abbrev pub place : Access → ℕ
 place (read a v) = a
 place (write a v) = a
-place (fifoRead n) = 0
-place (fifoWrite bs) = 0
+place (fifoRead n) = RegFifo
+place (fifoWrite bs) = RegFifo
 place (rfSwitch p) = 0
 place resetPin = 0
 place (sleepWrite a v) = a

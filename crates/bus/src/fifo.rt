@@ -7,6 +7,7 @@ ghost use Rattle.bus.specs.Steps.{Done, FifoRead, FifoWrite, fifoAfter, 
 use crate::bursts::burst_read;
 use crate::bursts::burst_write;
 use crate::log::append;
+use params::radio_kind_params::Register;
 
 // The bytes of buf to the FIFO.
 pub fn write_buffer(
@@ -23,7 +24,7 @@ pub fn write_buffer(
 {
     let count = buf.len() as u8;
     burst_write(image, fifo, buf);
-    append(log, at, 3, 0, count)
+    append(log, at, 3, Register::RegFifo.read_addr(), count)
 }
 
 // As many bytes of the FIFO to the front of buf.
@@ -41,5 +42,5 @@ pub fn read_buffer(
     ensures { λ _. ⌜ now (buf .exit) ≡ bufferAfter (FifoRead count ∷ []) (now (image .entry)) (now (fifo .entry)) (now (buf .entry)) ⌝ }
 {
     burst_read(image, fifo, buf, count as usize);
-    append(log, at, 2, 0, count)
+    append(log, at, 2, Register::RegFifo.read_addr(), count)
 }

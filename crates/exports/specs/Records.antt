@@ -10,7 +10,7 @@ abbrev pub modulationOf : ℕ → ℕ → ℕ → ℕ → ModulationParams
 modulationOf sf bw cr optimize = record { «spreading_factor» = sf; bandwidth = bw; «coding_rate» = cr; «low_data_rate_optimize» = optimize; frequency = record { 0 = 0 } }
 
 abbrev pub packetOf : ℕ → ℕ → ℕ → ℕ → ℕ → PacketParams
-packetOf preamble implicit length crc iq = record { «preamble_length» = preamble; «implicit_header» = implicit; «payload_length» = length; «crc_on» = crc; «iq_inverted» = iq }
+packetOf preamble implicit payload crc iq = record { «preamble_length» = preamble; «implicit_header» = implicit; «payload_length» = payload; «crc_on» = crc; «iq_inverted» = iq }
 
 abbrev pub linkOf : ℕ → ℕ → ℕ → ℕ → ℕ → ℕ → ℕ → ℕ → ℕ → ℤ → Link
 linkOf public sf bw cr hz preamble implicit crc iq power =

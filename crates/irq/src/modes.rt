@@ -10,6 +10,21 @@ use params::mod_params::RxMode;
 use params::mod_params::Verdict;
 use refusals::mode_codes::ModeCode;
 
+// What DIO0 and DIO3 tell, and the mappings of the other pins: the Rust's `DioMapping1Dio0` and `DioMapping1Dio3`.
+const DIO0_RX_DONE: u8 = 0x00;
+
+const DIO0_TX_DONE: u8 = 0x40;
+
+const DIO0_CAD_DONE: u8 = 0x80;
+
+const DIO0_OTHER: u8 = 0xc0;
+
+const DIO0_MASK: u8 = 0x3f;
+
+const DIO3_VALID_HEADER: u8 = 0x01;
+
+const DIO3_MASK: u8 = 0xfc;
+
 // A 1 shuts an interrupt out.
 pub fn irq_flags_mask(mode: RadioMode) -> u8
     ensures { λ r. ⌜ r ≡ shutOut (activity mode) ⌝ }
@@ -27,10 +42,10 @@ pub fn dio_mapping_1_mask(mode: RadioMode) -> u8
     ensures { λ r. ⌜ r ≡ mappingKeeps (activity mode) ⌝ }
 {
     match mode {
-        RadioMode::Transmit => 0x3f,
-        RadioMode::Receive(_) => 0x3c,
-        RadioMode::ChannelActivityDetection => 0x3f,
-        _ => 0x3f,
+        RadioMode::Transmit => DIO0_MASK,
+        RadioMode::Receive(_) => DIO0_MASK & DIO3_MASK,
+        RadioMode::ChannelActivityDetection => DIO0_MASK,
+        _ => DIO0_MASK,
     }
 }
 
@@ -38,10 +53,10 @@ pub fn dio_mapping_1(mode: RadioMode) -> u8
     ensures { λ r. ⌜ r ≡ mapping (activity mode) ⌝ }
 {
     match mode {
-        RadioMode::Transmit => 0x40,
-        RadioMode::Receive(_) => 0x01,
-        RadioMode::ChannelActivityDetection => 0x80,
-        _ => 0xc0,
+        RadioMode::Transmit => DIO0_TX_DONE,
+        RadioMode::Receive(_) => DIO0_RX_DONE | DIO3_VALID_HEADER,
+        RadioMode::ChannelActivityDetection => DIO0_CAD_DONE,
+        _ => DIO0_OTHER,
     }
 }
 

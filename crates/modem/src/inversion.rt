@@ -8,12 +8,22 @@ ghost use Rattle.operations.specs.Modem.{inversion};
 use bus::write_register;
 use params::radio_kind_params::Register;
 
+// RegInvertiq with InvertIQ RX or InvertIQ TX set, beside its reserved bits.
+pub const INVERT_IQ_RX: u8 = 0x66;
+
+const INVERT_IQ_TX: u8 = 0x27;
+
+// RegInvertiq2.
+const INVERT_IQ2_ON: u8 = 0x19;
+
+const INVERT_IQ2_OFF: u8 = 0x1d;
+
 pub fn invert_iq(iq_inverted: u8) -> u8
     ensures { λ r. ⌜ r ≡ invertIq «iq_inverted» ⌝ }
 {
     match iq_inverted {
-        0 => 0x27,
-        _ => 0x66,
+        0 => INVERT_IQ_TX,
+        _ => INVERT_IQ_RX,
     }
 }
 
@@ -21,8 +31,8 @@ pub fn invert_iq2(iq_inverted: u8) -> u8
     ensures { λ r. ⌜ r ≡ invertIq2 «iq_inverted» ⌝ }
 {
     match iq_inverted {
-        0 => 0x1d,
-        _ => 0x19,
+        0 => INVERT_IQ2_OFF,
+        _ => INVERT_IQ2_ON,
     }
 }
 

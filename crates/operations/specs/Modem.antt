@@ -40,9 +40,9 @@ abbrev pub packetNamed : ℕ → ℕ → ℕ → Verdict
 packetNamed implicit crc iq = or (flag implicit) (or (flag crc) (flag iq))
 
 abbrev pub createPacket : ℕ → ℕ → ℕ → ℕ → ℕ → ℕ → Told
-createPacket preamble implicit length crc iq sf =
+createPacket preamble implicit payload crc iq sf =
     tellsUnless (or (packetNamed implicit crc iq) (or (spreadingFactor sf) (headerForSpreadingFactor sf implicit)))
-    (pos preamble ∷ pos implicit ∷ pos length ∷ pos crc ∷ pos iq ∷ [])
+    (pos preamble ∷ pos implicit ∷ pos payload ∷ pos crc ∷ pos iq ∷ [])
 
 -- ---- modulation
 

@@ -51,11 +51,11 @@ usedDone (plain.Done used) = used
 usedDone (plain.Refused e used) = used
 
 abbrev pub tellsPayload : PayloadAnswer → Told
-tellsPayload (payload.Received length used) = told 0 (pos length ∷ [])
+tellsPayload (payload.Received size used) = told 0 (pos size ∷ [])
 tellsPayload (payload.Refused e used) = refusal e
 
 abbrev pub usedPayload : PayloadAnswer → ℕ
-usedPayload (payload.Received length used) = used
+usedPayload (payload.Received size used) = used
 usedPayload (payload.Refused e used) = used
 
 abbrev pub tellsStatus : StatusAnswer → Told

@@ -6,6 +6,7 @@ ghost use Rattle.sheets.specs.Power.{clamped, paConfig, paDac, ocp};
 ghost use Rattle.page.specs.Page.{written, find};
 ghost use Rattle.page.specs.Links.{accepted, Accepted};
 ghost use Rattle.page.specs.Lora.{config-1, config-2, config-3, placesOf};
+use modem::detection::DETECTION_RESERVED;
 use modem::detection::detection_optimize;
 use modem::detection::detection_threshold;
 use modem::inversion::invert_iq;
@@ -13,11 +14,13 @@ use modem::inversion::invert_iq2;
 use modem::low_data_rate::low_data_rate_optimize;
 use params::board::Board;
 use params::mod_params::Link;
+use setup::init::TCXO_FOR_OSCILLATOR;
 use setup::init::syncword;
 use setup::ramps::ramp_value;
 use sheets::Variant;
-
-const TCXO_FOR_OSCILLATOR: u8 = 0x10;
+use variants::ALL_BUT_SPREADING_FACTOR;
+use variants::sx1276::ALL_BUT_LDRO_AND_AGC_AUTO;
+use variants::sx1276::ALL_BUT_RX_PAYLOAD_CRC_ON;
 
 fn clamped_power(variant: Variant, tx_boost: bool, power: i32) -> i32
     ensures { λ r. ⌜ r ≡ clamped variant «tx_boost» power ⌝ }
@@ -75,14 +78,15 @@ fn config_2_sx1272(link: Link, old: u8) -> u8
     requires { ⌜ T (accepted Variant.Sx1272 link) ⌝ }
     ensures { λ r. ⌜ r ≡ written (config-2 Variant.Sx1272) link old ⌝ }
 {
-    (0x0f & old) | (link.spreading_factor * 16)
+    (ALL_BUT_SPREADING_FACTOR & old) | (link.spreading_factor * 16)
 }
 
 fn config_2_sx1276(link: Link, old: u8) -> u8
     requires { ⌜ T (accepted Variant.Sx1276 link) ⌝ }
     ensures { λ r. ⌜ r ≡ written (config-2 Variant.Sx1276) link old ⌝ }
 {
-    (0x0b & old) | (link.spreading_factor * 16 + link.crc_on * 4)
+    let kept = ALL_BUT_SPREADING_FACTOR & ALL_BUT_RX_PAYLOAD_CRC_ON & old;
+    kept | (link.spreading_factor * 16 + link.crc_on * 4)
 }
 
 // The SX1276 alone.
@@ -91,7 +95,7 @@ fn config_3(link: Link, old: u8) -> u8
     ensures { λ r. ⌜ r ≡ written config-3 link old ⌝ }
 {
     let flag = low_data_rate_optimize(link.spreading_factor, link.bandwidth);
-    (0xf3 & old) | (flag * 8)
+    (ALL_BUT_LDRO_AND_AGC_AUTO & old) | (flag * 8)
 }
 
 pub fn byte_left(board: Board, link: Link, register: u8, old: u8) -> u8
@@ -129,7 +133,7 @@ pub fn byte_left(board: Board, link: Link, register: u8, old: u8) -> u8
             Variant::Sx1272 => old,
             Variant::Sx1276 => config_3(link, old),
         },
-        0x31 => (0x78 & old) | detection_optimize(link.spreading_factor),
+        0x31 => (DETECTION_RESERVED & old) | detection_optimize(link.spreading_factor),
         0x33 => invert_iq(link.iq_inverted),
         0x37 => detection_threshold(link.spreading_factor),
         0x39 => syncword(link.public_network),

@@ -6,9 +6,11 @@ ghost use Rattle.page.specs.Lora.{tuned, powered, announced, shaped, frf-msb, f
 use crate::bytes_left;
 use crate::power_shown::power_shown;
 use crate::power_shown::power_shown_with;
+use modem::inversion::INVERT_IQ_RX;
 use params::board::Board;
 use params::mod_params::Link;
 use params::units::Steps;
+use setup::init::LORA_MAC_PUBLIC_SYNCWORD;
 use sheets::Variant;
 
 // At 125 kHz every frequency is accepted.
@@ -126,7 +128,7 @@ fn invert_iq(guess: Link, value: u8) -> Link
     ensures { λ r. ⌜ r ≡ invert-iq .learn value guess ⌝ }
 {
     let mut link = guess;
-    link.iq_inverted = if value == 0x66 { 1 } else { 0 };
+    link.iq_inverted = if value == INVERT_IQ_RX { 1 } else { 0 };
     link
 }
 
@@ -134,7 +136,11 @@ fn sync_word(guess: Link, value: u8) -> Link
     ensures { λ r. ⌜ r ≡ sync-word .learn value guess ⌝ }
 {
     let mut link = guess;
-    link.public_network = if value == 0x34 { 1 } else { 0 };
+    link.public_network = if value == LORA_MAC_PUBLIC_SYNCWORD {
+        1
+    } else {
+        0
+    };
     link
 }
 

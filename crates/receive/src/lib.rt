@@ -5,6 +5,7 @@ ghost use Prim.Native.Nat.{_+_, _≤_};
 ghost use lib.ListN.{length};
 ghost use Rattle.sheets.specs.Receive.{window};
 ghost use Rattle.params.specs.Answers.{tellsDone, usedDone};
+ghost use Rattle.params.specs.Values.{loraMode};
 ghost use Rattle.bus.specs.Steps.{Done};
 ghost use Rattle.bus.specs.Call.{Meets};
 ghost use Rattle.operations.specs.Modes.{reception, rxRefusal, rxWindow, rxOpMode, doRx};
@@ -16,11 +17,17 @@ use params::answers::Answer;
 use params::mod_params::RadioError;
 use params::mod_params::RxMode;
 use params::mod_params::Verdict;
+use params::values::LoRaMode;
 use refusals::mode_codes::RxModeCode;
 use refusals::mode_codes::rx_mode;
 
 pub mod detect;
 pub mod listening;
+
+// How many symbols a single receive waits for a preamble.
+const SX127X_MIN_LORA_SYMB_NUM_TIMEOUT: u16 = 4;
+
+const SX127X_MAX_LORA_SYMB_NUM_TIMEOUT: u16 = 1023;
 
 fn write_rx(
     image: &mut [u8],
@@ -28,25 +35,24 @@ fn write_rx(
     at: usize,
     rx_boost: bool,
     symbol_num: u16,
-    mode: u8,
+    mode: LoRaMode,
 ) -> usize
     requires { ⌜ (at + 24 ≤ length (now log)) × (length (now image) ≡ 128) ⌝ }
-    ensures { λ r. ⌜ Done (reception «rx_boost» «symbol_num» mode) (now (image .entry)) (now (log .entry)) at r (now (image .exit)) (now (log .exit)) ⌝ }
+    ensures { λ r. ⌜ Done (reception «rx_boost» «symbol_num» (loraMode mode)) (now (image .entry)) (now (log .entry)) at r (now (image .exit)) (now (log .exit)) ⌝ }
 {
     let at = enable_rf_switch_rx(log, at);
     let at = write_window(image, log, at, symbol_num);
     write_listening(image, log, at, rx_boost, mode)
 }
 
-// 4 to 1023 symbols.
 fn symbols(n: u16) -> u16
     ensures { λ r. ⌜ r ≡ window n ⌝ }
 {
-    if n < 4 {
-        return 4;
+    if n < SX127X_MIN_LORA_SYMB_NUM_TIMEOUT {
+        return SX127X_MIN_LORA_SYMB_NUM_TIMEOUT;
     }
-    if 1023 < n {
-        return 1023;
+    if SX127X_MAX_LORA_SYMB_NUM_TIMEOUT < n {
+        return SX127X_MAX_LORA_SYMB_NUM_TIMEOUT;
     }
     n
 }
@@ -55,21 +61,21 @@ fn symbols(n: u16) -> u16
 struct Reception {
     asked: Verdict,
     symbol_num: u16,
-    mode: u8,
+    mode: LoRaMode,
 }
 
 fn refused(e: RadioError) -> Reception
-    ensures { λ r. ⌜ (r .asked ≡ Verdict.Refused e) × ((r .«symbol_num» ≡ 0) × (r .mode ≡ 0x85)) ⌝ }
+    ensures { λ r. ⌜ (r .asked ≡ Verdict.Refused e) × ((r .«symbol_num» ≡ 0) × (r .mode ≡ LoRaMode.RxContinuous)) ⌝ }
 {
     Reception {
         asked: Verdict::Refused(e),
         symbol_num: 0,
-        mode: 0x85,
+        mode: LoRaMode::RxContinuous,
     }
 }
 
 fn received(code: RxModeCode) -> Reception
-    ensures { λ r. ⌜ (r .asked ≡ rxRefusal code) × ((r .«symbol_num» ≡ rxWindow code) × (r .mode ≡ rxOpMode code)) ⌝ }
+    ensures { λ r. ⌜ (r .asked ≡ rxRefusal code) × ((r .«symbol_num» ≡ rxWindow code) × (loraMode (r .mode) ≡ rxOpMode code)) ⌝ }
 {
     match code {
         RxModeCode::NoCase => refused(RadioError::InvalidConfiguration),
@@ -78,12 +84,12 @@ fn received(code: RxModeCode) -> Reception
             RxMode::Continuous => Reception {
                 asked: Verdict::Clear,
                 symbol_num: 0,
-                mode: 0x85,
+                mode: LoRaMode::RxContinuous,
             },
             RxMode::Single(n) => Reception {
                 asked: Verdict::Clear,
                 symbol_num: symbols(n),
-                mode: 0x86,
+                mode: LoRaMode::RxSingle,
             },
         },
     }

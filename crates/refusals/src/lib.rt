@@ -24,11 +24,11 @@ pub fn base_addresses(tx: usize, rx: usize) -> Verdict
 }
 
 // 12: the Rust's `set_payload_length`.
-pub fn payload_length(length: usize) -> Verdict
-    ensures { λ r. ⌜ r ≡ payloadLength length ⌝ }
+pub fn payload_length(size: usize) -> Verdict
+    ensures { λ r. ⌜ r ≡ payloadLength size ⌝ }
 {
-    if 255 < length {
-        return Verdict::Refused(RadioError::PayloadSizeUnexpected(length));
+    if 255 < size {
+        return Verdict::Refused(RadioError::PayloadSizeUnexpected(size));
     }
     Verdict::Clear
 }

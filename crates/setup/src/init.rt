@@ -21,11 +21,11 @@ use sheets::Variant;
 use variants::records::init_records;
 use variants::registers::reg_tcxo;
 
-const LORA_MAC_PUBLIC_SYNCWORD: u8 = 0x34;
+pub const LORA_MAC_PUBLIC_SYNCWORD: u8 = 0x34;
 
 const LORA_MAC_PRIVATE_SYNCWORD: u8 = 0x12;
 
-const TCXO_FOR_OSCILLATOR: u8 = 0x10;
+pub const TCXO_FOR_OSCILLATOR: u8 = 0x10;
 
 // The oscillator's register is the variant's own.
 fn write_tcxo(

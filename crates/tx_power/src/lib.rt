@@ -4,4 +4,4 @@ pub mod sx1272;
 pub mod sx1276;
 
 // PaSelect, for the pin PA_BOOST.
-const PA_BOOST: u8 = 0x80;
+pub const PA_BOOST: u8 = 0x80;

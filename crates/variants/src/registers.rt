@@ -1,6 +1,6 @@
 // What each variant has of its own: the registers that stand elsewhere, and a bit of RegPaRamp.
 ghost use mathlib.Core.Path.{_≡_};
-ghost use Rattle.sheets.specs.Registers.{RegTcxo, RegPaDac};
+ghost use Rattle.sheets.specs.Registers.{RegTcxo};
 ghost use Rattle.sheets.specs.Power.{rampBit};
 ghost use Rattle.params.specs.Addresses.{address};
 use params::radio_kind_params::Register;
@@ -32,15 +32,6 @@ pub fn reg_tcxo(variant: Variant) -> Register
     match variant {
         Variant::Sx1272 => Sx1272::REG_TCXO,
         Variant::Sx1276 => Sx1276::REG_TCXO,
-    }
-}
-
-pub fn reg_pa_dac(variant: Variant) -> Register
-    ensures { λ r. ⌜ address r ≡ RegPaDac variant ⌝ }
-{
-    match variant {
-        Variant::Sx1272 => Sx1272::REG_PA_DAC,
-        Variant::Sx1276 => Sx1276::REG_PA_DAC,
     }
 }
 

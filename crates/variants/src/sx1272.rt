@@ -6,6 +6,7 @@ ghost use Rattle.sheets.specs.Modem.{bandwidthCode};
 ghost use Rattle.bus.specs.Steps.{Done};
 ghost use Rattle.operations.specs.Modem.{modem, framing};
 ghost use Rattle.operations.specs.Power.{amplifier};
+use crate::ALL_BUT_SPREADING_FACTOR;
 use crate::registers::Sx1272;
 use bus::modify_register;
 use bus::write_register;
@@ -14,6 +15,11 @@ use sheets::Variant;
 use tx_power::levels::pa_dac;
 use tx_power::sx1272::clamped_power;
 use tx_power::sx1272::pa_config;
+
+// RegModemConfig1: ImplicitHeaderModeOn and RxPayloadCrcOn, and the rest of it.
+const HEADER_AND_CRC: u8 = 0x06;
+
+const ALL_BUT_HEADER_AND_CRC: u8 = 0xf9;
 
 // The optimize flag stands in RegModemConfig1 here, beside bandwidth and coding rate: one access writes the three.
 pub fn set_modulation_params(
@@ -31,9 +37,23 @@ pub fn set_modulation_params(
 {
     let bw_val = Variant::Sx1272.bandwidth_code(bw);
     let config_1 = bw_val * 64 + cr * 8 + low_data_rate_optimize;
-    let at = modify_register(image, log, at, Register::RegModemConfig1, 0x06, config_1);
+    let at = modify_register(
+        image,
+        log,
+        at,
+        Register::RegModemConfig1,
+        HEADER_AND_CRC,
+        config_1,
+    );
     let config_2 = sf * 16;
-    modify_register(image, log, at, Register::RegModemConfig2, 0x0f, config_2)
+    modify_register(
+        image,
+        log,
+        at,
+        Register::RegModemConfig2,
+        ALL_BUT_SPREADING_FACTOR,
+        config_2,
+    )
 }
 
 pub fn set_packet_params(
@@ -48,7 +68,14 @@ pub fn set_packet_params(
     ensures { λ r. ⌜ Done (framing Variant.Sx1272 «implicit_header» «crc_on») (now (image .entry)) (now (log .entry)) at r (now (image .exit)) (now (log .exit)) ⌝ }
 {
     let config_1 = implicit_header * 4 + crc_on * 2;
-    modify_register(image, log, at, Register::RegModemConfig1, 0xf9, config_1)
+    modify_register(
+        image,
+        log,
+        at,
+        Register::RegModemConfig1,
+        ALL_BUT_HEADER_AND_CRC,
+        config_1,
+    )
 }
 
 // The Rust leaves the over current protection alone on this variant.

@@ -7,16 +7,40 @@ ghost use Rattle.bus.specs.Steps.{Done};
 ghost use Rattle.operations.specs.Modem.{modem, framing};
 ghost use Rattle.operations.specs.Power.{amplifier};
 ghost use Rattle.operations.specs.Modes.{carrierTest};
+use crate::ALL_BUT_SPREADING_FACTOR;
 use crate::registers::Sx1276;
 use bus::modify_register;
 use bus::pins::enable_rf_switch_rx;
 use bus::write_register;
 use params::radio_kind_params::Register;
+use params::values::LoRaMode;
 use sheets::Variant;
+use tx_power::PA_BOOST;
 use tx_power::levels::pa_dac;
 use tx_power::sx1276::clamped_power;
 use tx_power::sx1276::ocp;
 use tx_power::sx1276::pa_config;
+
+// What stays of a register while a field of it is written: RegModemConfig1 without Bw, CodingRate, ImplicitHeaderModeOn;
+// RegModemConfig2 without RxPayloadCrcOn; RegModemConfig3 without LowDataRateOptimize and AgcAutoOn.
+const ALL_BUT_BW: u8 = 0x0f;
+
+const ALL_BUT_CODING_RATE: u8 = 0xf1;
+
+const ALL_BUT_IMPLICIT_HEADER_MODE_ON: u8 = 0xfe;
+
+pub const ALL_BUT_RX_PAYLOAD_CRC_ON: u8 = 0xfb;
+
+pub const ALL_BUT_LDRO_AND_AGC_AUTO: u8 = 0xf3;
+
+// The carrier's bits, in RegPaConfig, RegOpMode and RegModemConfig2.
+const ALL_BUT_PA_SELECT: u8 = 0x7f;
+
+const ACCESS_SHARED_REG: u8 = 0x40;
+
+const TX_CONTINUOUS_MODE: u8 = 0x08;
+
+const ALL_BUT_TX_CONTINUOUS_MODE: u8 = 0xf7;
 
 // A field at a time, as the Rust does it; the optimize flag with AgcAutoOn cleared.
 pub fn set_modulation_params(
@@ -34,13 +58,41 @@ pub fn set_modulation_params(
 {
     let bw_val = Variant::Sx1276.bandwidth_code(bw);
     let sf_bits = sf * 16;
-    let at = modify_register(image, log, at, Register::RegModemConfig2, 0x0f, sf_bits);
     let bw_bits = bw_val * 16;
-    let at = modify_register(image, log, at, Register::RegModemConfig1, 0x0f, bw_bits);
     let cr_bits = cr * 2;
-    let at = modify_register(image, log, at, Register::RegModemConfig1, 0xf1, cr_bits);
     let ldro_bit = low_data_rate_optimize * 8;
-    modify_register(image, log, at, Register::RegModemConfig3, 0xf3, ldro_bit)
+    let at = modify_register(
+        image,
+        log,
+        at,
+        Register::RegModemConfig2,
+        ALL_BUT_SPREADING_FACTOR,
+        sf_bits,
+    );
+    let at = modify_register(
+        image,
+        log,
+        at,
+        Register::RegModemConfig1,
+        ALL_BUT_BW,
+        bw_bits,
+    );
+    let at = modify_register(
+        image,
+        log,
+        at,
+        Register::RegModemConfig1,
+        ALL_BUT_CODING_RATE,
+        cr_bits,
+    );
+    modify_register(
+        image,
+        log,
+        at,
+        Register::RegModemConfig3,
+        ALL_BUT_LDRO_AND_AGC_AUTO,
+        ldro_bit,
+    )
 }
 
 pub fn set_packet_params(
@@ -59,11 +111,18 @@ pub fn set_packet_params(
         log,
         at,
         Register::RegModemConfig1,
-        0xfe,
+        ALL_BUT_IMPLICIT_HEADER_MODE_ON,
         implicit_header,
     );
     let crc_bit = crc_on * 4;
-    modify_register(image, log, at, Register::RegModemConfig2, 0xfb, crc_bit)
+    modify_register(
+        image,
+        log,
+        at,
+        Register::RegModemConfig2,
+        ALL_BUT_RX_PAYLOAD_CRC_ON,
+        crc_bit,
+    )
 }
 
 pub fn set_tx_power(
@@ -91,7 +150,22 @@ pub fn set_tx_continuous_wave_mode(image: &mut [u8], log: &mut [u8], at: usize) 
     ensures { λ r. ⌜ Done carrierTest (now (image .entry)) (now (log .entry)) at r (now (image .exit)) (now (log .exit)) ⌝ }
 {
     let at = enable_rf_switch_rx(log, at);
-    let at = modify_register(image, log, at, Register::RegPaConfig, 0x7f, 0x80);
-    let at = write_register(image, log, at, Register::RegOpMode, 0xc3);
-    modify_register(image, log, at, Register::RegModemConfig2, 0xf7, 0x08)
+    let at = modify_register(
+        image,
+        log,
+        at,
+        Register::RegPaConfig,
+        ALL_BUT_PA_SELECT,
+        PA_BOOST,
+    );
+    let mode = LoRaMode::Tx.value() | ACCESS_SHARED_REG;
+    let at = write_register(image, log, at, Register::RegOpMode, mode);
+    modify_register(
+        image,
+        log,
+        at,
+        Register::RegModemConfig2,
+        ALL_BUT_TX_CONTINUOUS_MODE,
+        TX_CONTINUOUS_MODE,
+    )
 }

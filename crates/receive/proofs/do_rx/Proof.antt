@@ -5,6 +5,7 @@ use mathlib.Core.Path.{_≡_, refl}
 use native.Mathlib.Omega.{arith}
 use denote.Ref.{now}
 use Rattle.bus.proofs.admit.Calls.{Decided, decided}
+use Rattle.params.specs.Values.{loraMode}
 use Rattle.refusals.specs.Modes.{rxModeOf}
 use Rattle.operations.specs.Modes.{rxRefusal, rxWindow, rxOpMode}
 use Rattle.operations.proofs.Operations.{rx-op}
@@ -15,7 +16,7 @@ use Rattle.receive.proofs.do_rx.Tie as tie
 told-of : (c : tie.After-received)
     → let a = c .before .before .before .before .args in
     (c .received .result .asked ≡ rxRefusal (rxModeOf (a .rx-code) (a .n)))
-    × ((c .received .result .«symbol_num» ≡ rxWindow (rxModeOf (a .rx-code) (a .n))) × (c .received .result .mode ≡ rxOpMode (rxModeOf (a .rx-code) (a .n))))
+    × ((c .received .result .«symbol_num» ≡ rxWindow (rxModeOf (a .rx-code) (a .n))) × (loraMode (c .received .result .mode) ≡ rxOpMode (rxModeOf (a .rx-code) (a .n))))
 told-of c = rw (c .before .rx-mode .ensures) at (c .received .ensures)
 
 decision : (c : tie.After-admit) → let a = c .before .before .before .before .before .before .before .args in Decided (rx-op (a .rx-boost) (rxModeOf (a .rx-code) (a .n))) (now (a .image)) (now (a .log)) (a .used) (c .admit .result)

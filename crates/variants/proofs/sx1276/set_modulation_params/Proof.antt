@@ -17,9 +17,8 @@ code-is bw h = equal 0 10 (bandwidthCode Sx1276) (λ k. k) tt bw (omega arith) (
 
 mul-bw-bits : tie.Need-mul-bw-bits
 mul-bw-bits c =
-    let code = c .before .before .before .before .before .before .before in
-    let start = code .before .before .before in
-    omega (arith, code .bandwidth-code .ensures, code-is (start .args .bw) (omega arith))
+    let start = c .before .before .before in
+    omega (arith, c .bandwidth-code .ensures, code-is (start .args .bw) (omega arith))
 
 returns : tie.Need-returns
 returns c =
@@ -37,12 +36,12 @@ set-modulation-params-spec =
     (tie.spec
     (λ c κs. search needs)
     (λ c. search needs)
-    (λ c κs. search needs)
     mul-bw-bits
-    (λ c κs. search needs)
+    (λ c. search needs)
     (λ c. search needs)
     (λ c κs. search needs)
-    (λ c. search needs)
+    (λ c κs. search needs)
+    (λ c κs. search needs)
     (λ c κs. search needs)
     (λ c. search needs)
     (λ c. search needs)
