@@ -6,11 +6,15 @@ use mathlib.Core.List.{List, [], _∷_}
 use lib.Dec.{T}
 use lib.IntN.{ℤ}
 use Rattle.sheets.specs.Frequency.{steps, readBack, lowest}
-use Rattle.sheets.specs.Modem.{bandwidthCodes}
+use Rattle.sheets.specs.Modem.{bandwidths, bandwidthCodes, symbolTime, optimize}
 use Rattle.sheets.specs.Power.{clamped, paConfig, paDac, ocp}
 use Rattle.sheets.specs.Signal.{offset, rssi}
 use Rattle.sheets.proofs.Sweep.{both, sameℤ, sameℤ→eq}
 use Rattle.refusals.specs.Refusals.{linkRefusal}
+use Rattle.bus.specs.Call.{admitted}
+use Rattle.page.specs.Page.{fits, read}
+use Rattle.page.specs.Links.{accepted}
+use Rattle.page.specs.Lora.{is, shown}
 use Rattle.figures.specs.Starred.{Row, starred}
 
 abbrev alike : List ℤ → List ℤ → Bool
@@ -39,5 +43,5 @@ right [] t = tt
 right (r ∷ rs) t = let p = both (alike (r .computed) (r .bench)) (holds rs) t in (alike→eq (r .computed) (r .bench) (p .0), right rs (p .1))
 
 pub starred-figures : Right starred
-unfolding starred steps readBack lowest bandwidthCodes clamped paConfig paDac ocp offset rssi linkRefusal
+unfolding starred steps readBack lowest bandwidths bandwidthCodes symbolTime optimize clamped paConfig paDac ocp offset rssi linkRefusal admitted accepted fits read is shown
 starred-figures = right starred tt

@@ -3,15 +3,17 @@ use mathlib.Core.Bool.{Bool, true, false}
 use mathlib.Core.List.{List, [], _∷_, _++_}
 use Prim.Native.Nat.{ℕ}
 use lib.IntN.{ℤ, pos, negsuc}
+use lib.ListN.{getD, replicate}
 use Rattle.sheets.specs.declared.Variant.the-variants.{Sx1272, Sx1276}
-use Rattle.sheets.specs.Frequency.{steps, held, frfMsb, frfMid, frfLsb, readBack, lowest}
+use Rattle.sheets.specs.Frequency.{steps, held, frfMsb, frfMid, frfLsb, readBack}
 use Rattle.sheets.specs.Signal.{snr, offset, rssi}
 use Rattle.sheets.specs.Receive.{window}
 use Rattle.sheets.specs.Power.{paConfig, paDac, ocp}
-use Rattle.params.specs.declared.mod_params.Verdict.{Verdict}
-use Rattle.params.specs.declared.mod_params.Verdict.the-variants.{Clear, Refused}
-use Rattle.params.specs.Errors.{numberOf}
-use Rattle.refusals.specs.Refusals.{linkRefusal}
+use Rattle.params.specs.declared.board.Board.{Board}
+use Rattle.bus.specs.Call.{Outcome}
+use Rattle.operations.specs.Programming.{programLink}
+use Rattle.page.specs.Links.{link}
+use Rattle.page.specs.Reading.{readLink}
 
 pub record Row : Type 0 where
   pub computed : List ℤ
@@ -31,28 +33,22 @@ plain (n ∷ ns) = pos n ∷ plain ns
 abbrev pub frf : ℕ → List ℕ
 frf hz = frfMsb (steps hz) ∷ frfMid (steps hz) ∷ frfLsb (steps hz) ∷ []
 
--- a refusal's number, 0 where there is none
-abbrev pub number : Verdict → ℕ
-number Clear = 0
-number (Refused e) = numberOf e
+-- a plain SX1276 board
+abbrev pub board : Board
+board = record { variant = Sx1276; «tcxo_used» = false; «tx_boost» = false; «rx_boost» = false }
 
--- whole programming of an ordinary link at a bandwidth and a frequency
+-- Whole programming of a link at a bandwidth and a frequency, on a zero image, with room for 30 records. The rest of the link is
+-- ordinary: public network, spreading factor 9, 4/5, a preamble of 8, explicit header, CRC, IQ not inverted, 14 dBm.
+abbrev pub programmed : ℕ → ℕ → Outcome
+programmed bw hz = programLink board (link 1 9 bw 1 hz 8 0 1 0 (pos 14)) (replicate 128 0) (replicate 90 0) 0
+
+-- the number that it returns
 abbrev pub programming : ℕ → ℕ → ℕ
-programming bw hz =
-    number
-    (linkRefusal Sx1276
-    (record {
-      «public_network» = 1;
-      «spreading_factor» = 9;
-      bandwidth = bw;
-      «coding_rate» = 1;
-      frequency = record { 0 = hz };
-      «preamble_length» = 8;
-      «implicit_header» = 0;
-      «crc_on» = 1;
-      «iq_inverted» = 0;
-      power = pos 14;
-    }))
+programming bw hz = programmed bw hz .tells .number
+
+-- the frequency that the reader returns from the image that it leaves at 125 kHz: of a link's values the fifth
+abbrev pub reader : ℕ → ℤ
+reader hz = getD (readLink board (programmed 7 hz .image) .values) 4 (pos 0)
 
 -- the SX1272's RSSI of a packet, by raw RSSI and raw SNR
 abbrev pub strength : ℕ → ℕ → ℤ
@@ -68,7 +64,7 @@ unfoldable pub starred : List Row
 starred =
     row (plain (frf 0)) (plain (0x00 ∷ 0x00 ∷ 0x00 ∷ []))
     ∷ row (plain (frf 868100000)) (plain (0xd9 ∷ 0x06 ∷ 0x66 ∷ []))
-    ∷ row (plain (readBack (held 868100000) ∷ lowest (held 868100000) ∷ [])) (plain (868099975 ∷ 868099976 ∷ []))
+    ∷ row (pos (readBack (held 868100000)) ∷ reader 868100000 ∷ []) (plain (868099975 ∷ 868099976 ∷ []))
     ∷ row (plain (frf 1023999999)) (plain (0xff ∷ 0xff ∷ 0xff ∷ []))
     ∷ row (plain (frf 1024000000 ++ (programming 7 1024000000 ∷ []))) (plain (0x00 ∷ 0x00 ∷ 0x00 ∷ 23 ∷ []))
     ∷ row (plain (frf 525000061) ++ (offset Sx1276 (held 525000061) ∷ [])) (plain (0x83 ∷ 0x40 ∷ 0x00 ∷ []) ++ (negsuc 163 ∷ []))

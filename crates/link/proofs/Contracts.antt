@@ -1,18 +1,24 @@
 -- What demand 3 speaks of is what the calls do: the image of whole programming's outcome, and that 24 and 26 alone can still refuse an accepted link.
 -- Assumes nothing.
-use mathlib.Core.Path.{_≡_, refl, ap}
+use mathlib.Core.Path.{_≡_, refl, ap, _∙_}
+use mathlib.Core.Bool.{Bool, true, false}
 use mathlib.Core.List.{List, []}
-use Prim.Native.Nat.{ℕ}
-use lib.Dec.{T}
+use Prim.Native.Nat.{ℕ, _+_, _*_, _≤_}
+use lib.Dec.{T, leb, le→leb}
+use lib.ListN.{length}
 use Rattle.sheets.proofs.Sweep.{both}
 use Rattle.params.specs.declared.mod_params.Link.{Link}
+use Rattle.params.specs.declared.mod_params.RadioError.the-variants.{BadImage, LogFull}
 use Rattle.params.specs.declared.mod_params.Verdict.{Verdict}
 use Rattle.params.specs.declared.mod_params.Verdict.the-variants.{Clear, Refused}
 use Rattle.params.specs.declared.board.Board.{Board}
-use Rattle.refusals.specs.Refusals.{linkRefusal}
+use Rattle.params.specs.Errors.{or}
+use Rattle.refusals.specs.Refusals.{unless, linkRefusal}
 use Rattle.bus.specs.Steps.{endAfter}
-use Rattle.bus.specs.Call.{admitted, settled, well}
+use Rattle.bus.specs.Call.{formed, admitted, settled, well}
 use Rattle.operations.specs.Programming.{programming, programLink}
+use Rattle.operations.specs.Records.{programRecords}
+use Rattle.operations.proofs.Counts.{program-count}
 use Rattle.page.specs.Links.{clear, accepted, Accepted}
 use Rattle.link.specs.Programmed.{programmed}
 
@@ -32,3 +38,23 @@ accepted-is-clear b l h = by (linkRefusal (b .variant) l) (both (clear (linkRefu
     by : (v : Verdict) → T (clear v) → v ≡ Clear
     by Clear t = refl
     by (Refused e) t = absurd t
+
+-- where the log would end
+abbrev pub end : Board → ℕ → ℕ
+end b used = used + 3 * programRecords (b .variant) (b .«tcxo_used»)
+
+-- 26 and 24 alone decide over an accepted link
+pub by-26-and-24-alone : (b : Board) (l : Link) (im log : List ℕ) (used : ℕ) → Accepted b l
+    → verdict b l im log used ≡ or (unless (formed im log used) BadImage) (unless (leb (end b used) (length log)) LogFull)
+unfolding admitted
+by-26-and-24-alone b l im log used h = rw (accepted-is-clear b l h, program-count b l im used)
+
+-- so whole programming of one goes on wherever the call is well formed and its log has room
+pub accepted-goes-on : (b : Board) (l : Link) (im log : List ℕ) (used : ℕ) → Accepted b l → T (formed im log used) → end b used ≤ length log
+    → verdict b l im log used ≡ Clear
+accepted-goes-on b l im log used h f r = by-26-and-24-alone b l im log used h ∙ by (formed im log used) (leb (end b used) (length log)) f (le→leb (end b used) (length log) r)
+  where
+    by : (p q : Bool) → T p → T q → or (unless p BadImage) (unless q LogFull) ≡ Clear
+    by true true s t = refl
+    by true false s t = absurd t
+    by false q s t = absurd s
