@@ -19,7 +19,7 @@
  *   results[0]   the bytes of the log that are used afterwards, also after a refusal; hand them to the next call.
  *                0 from a call that takes no log.
  *   results[1..] the values, as each function's comment lists them; after a refusal those that its name below lists.
- * Other places are left alone. A number of type size_t comes as the int64_t of the same 64 bits.
+ * Other places are left alone. A length or a base comes as the int64_t of the same 64 bits.
  *
  * The slices that are lent to one call must not overlap. A slice of length 0 may be NULL.
  */
@@ -31,6 +31,32 @@
 
 #ifdef __cplusplus
 extern "C" {
+#endif
+
+/* ---- how a slice is passed: its pointer, then its length
+ *
+ * A length, and every other number that the library counts with, is uint64_t and not size_t: the library was proved for
+ * lengths of 64 bits, and takes 64 bits on every processor that it is compiled for. A pointer is as wide as the
+ * processor's. Were a length declared as size_t, a program for a 32-bit processor would compile without a warning and
+ * put all that follows the first pointer elsewhere than the library looks for it: wrong answers and a fault. A size_t
+ * that you hand over is widened by your compiler.
+ *
+ * An array of negative size here means that your compiler passes something else than the library expects.
+ */
+typedef char sx127x_a_length_has_64_bits[sizeof(uint64_t) == 8 && sizeof(size_t) <= 8 ? 1 : -1];
+typedef char sx127x_a_pointer_has_32_or_64_bits[sizeof(void *) == 4 || sizeof(void *) == 8 ? 1 : -1];
+typedef char sx127x_a_pointer_is_an_address[sizeof(void *) == sizeof(uintptr_t) ? 1 : -1];
+
+#if defined(__x86_64__) || defined(_M_X64)
+/* `rt staticlib` compiles for Linux: x32 has shorter pointers, Windows other registers for them. */
+typedef char sx127x_x86_64_pointer_has_64_bits[sizeof(void *) == 8 ? 1 : -1];
+#ifdef _WIN32
+#error "libexports.a for x86-64 takes its arguments as Linux passes them, and Windows passes them otherwise"
+#endif
+#endif
+
+#if defined(__arm__) && !defined(__ARM_EABI__)
+#error "libexports.a for ARM takes a length in a pair of registers as the EABI has it"
 #endif
 
 /* ---- sizes */
@@ -152,115 +178,115 @@ enum { SX127X_EVENT_NOTHING = 0, SX127X_EVENT_PREAMBLE_RECEIVED, SX127X_EVENT_DO
 /* ---- setting up */
 
 /* Sets the sync word of a public or a private network, the oscillator where the board has one, and both FIFO bases. */
-int32_t sx127x_init_lora(uint8_t *image, size_t image_len, uint8_t *log, size_t log_len, size_t used, uint8_t board,
-                         uint8_t public_network, int64_t *results, size_t results_len);
+int32_t sx127x_init_lora(uint8_t *image, uint64_t image_len, uint8_t *log, uint64_t log_len, uint64_t used,
+                         uint8_t board, uint8_t public_network, int64_t *results, uint64_t results_len);
 
 /* Sets both FIFO bases to 0; bases above 255 are refused. */
-int32_t sx127x_set_tx_rx_buffer_base_address(uint8_t *image, size_t image_len, uint8_t *log, size_t log_len,
-                                             size_t used, size_t tx_base_addr, size_t rx_base_addr, int64_t *results,
-                                             size_t results_len);
+int32_t sx127x_set_tx_rx_buffer_base_address(uint8_t *image, uint64_t image_len, uint8_t *log, uint64_t log_len,
+                                             uint64_t used, uint64_t tx_base_addr, uint64_t rx_base_addr,
+                                             int64_t *results, uint64_t results_len);
 
 /* Sets the frequency. */
-int32_t sx127x_set_channel(uint8_t *image, size_t image_len, uint8_t *log, size_t log_len, size_t used,
-                           uint32_t frequency_in_hz, int64_t *results, size_t results_len);
+int32_t sx127x_set_channel(uint8_t *image, uint64_t image_len, uint8_t *log, uint64_t log_len, uint64_t used,
+                           uint32_t frequency_in_hz, int64_t *results, uint64_t results_len);
 
 /* Sets the power, in dBm, held to what the board can do; the ramp is 40 us where is_tx_prep is 1, else 250 us. */
-int32_t sx127x_set_tx_power_and_ramp_time(uint8_t *image, size_t image_len, uint8_t *log, size_t log_len, size_t used,
-                                          uint8_t board, int32_t power, uint8_t is_tx_prep, int64_t *results,
-                                          size_t results_len);
+int32_t sx127x_set_tx_power_and_ramp_time(uint8_t *image, uint64_t image_len, uint8_t *log, uint64_t log_len,
+                                          uint64_t used, uint8_t board, int32_t power, uint8_t is_tx_prep,
+                                          int64_t *results, uint64_t results_len);
 
 /* ---- modulation and packets */
 
 /* Judges a modulation. Values: spreading factor, bandwidth, coding rate, low data rate optimize, hertz. */
-int32_t sx127x_create_modulation_params(uint8_t board, uint8_t spreading_factor, uint8_t bandwidth,
-                                        uint8_t coding_rate, uint32_t frequency_in_hz, int64_t *results,
-                                        size_t results_len);
+int32_t sx127x_create_modulation_params(uint8_t board, uint8_t spreading_factor, uint8_t bandwidth, uint8_t coding_rate,
+                                        uint32_t frequency_in_hz, int64_t *results, uint64_t results_len);
 
 /* Judges a packet's parameters. Values: preamble, implicit header, payload length, CRC, IQ. */
 int32_t sx127x_create_packet_params(uint16_t preamble_length, uint8_t implicit_header, uint8_t payload_length,
                                     uint8_t crc_on, uint8_t iq_inverted, uint8_t spreading_factor, int64_t *results,
-                                    size_t results_len);
+                                    uint64_t results_len);
 
 /* Sets spreading factor, bandwidth, coding rate and low data rate optimize. */
-int32_t sx127x_set_modulation_params(uint8_t *image, size_t image_len, uint8_t *log, size_t log_len, size_t used,
+int32_t sx127x_set_modulation_params(uint8_t *image, uint64_t image_len, uint8_t *log, uint64_t log_len, uint64_t used,
                                      uint8_t board, uint8_t spreading_factor, uint8_t bandwidth, uint8_t coding_rate,
-                                     uint8_t low_data_rate_optimize, int64_t *results, size_t results_len);
+                                     uint8_t low_data_rate_optimize, int64_t *results, uint64_t results_len);
 
 /* Sets preamble, header, CRC and IQ. The payload's length reaches no register here: sx127x_set_payload sets it. */
-int32_t sx127x_set_packet_params(uint8_t *image, size_t image_len, uint8_t *log, size_t log_len, size_t used,
+int32_t sx127x_set_packet_params(uint8_t *image, uint64_t image_len, uint8_t *log, uint64_t log_len, uint64_t used,
                                  uint8_t board, uint16_t preamble_length, uint8_t implicit_header,
                                  uint8_t payload_length, uint8_t crc_on, uint8_t iq_inverted, int64_t *results,
-                                 size_t results_len);
+                                 uint64_t results_len);
 
 /* ---- what the radio does */
 
 /* Resets the radio and puts it to sleep. */
-int32_t sx127x_reset(uint8_t *image, size_t image_len, uint8_t *log, size_t log_len, size_t used, int64_t *results,
-                     size_t results_len);
+int32_t sx127x_reset(uint8_t *image, uint64_t image_len, uint8_t *log, uint64_t log_len, uint64_t used,
+                     int64_t *results, uint64_t results_len);
 
 /* Standby, the antenna off. */
-int32_t sx127x_set_standby(uint8_t *image, size_t image_len, uint8_t *log, size_t log_len, size_t used,
-                           int64_t *results, size_t results_len);
+int32_t sx127x_set_standby(uint8_t *image, uint64_t image_len, uint8_t *log, uint64_t log_len, uint64_t used,
+                           int64_t *results, uint64_t results_len);
 
 /* Sleep, the antenna off. */
-int32_t sx127x_set_sleep(uint8_t *image, size_t image_len, uint8_t *log, size_t log_len, size_t used,
-                         int64_t *results, size_t results_len);
+int32_t sx127x_set_sleep(uint8_t *image, uint64_t image_len, uint8_t *log, uint64_t log_len, uint64_t used,
+                         int64_t *results, uint64_t results_len);
 
 /* Transmits the payload. */
-int32_t sx127x_do_tx(uint8_t *image, size_t image_len, uint8_t *log, size_t log_len, size_t used, int64_t *results,
-                     size_t results_len);
+int32_t sx127x_do_tx(uint8_t *image, uint64_t image_len, uint8_t *log, uint64_t log_len, uint64_t used,
+                     int64_t *results, uint64_t results_len);
 
 /* Receives: SX127X_RX_SINGLE waits `symbols` symbols for a preamble, held to 4 to 1,023. */
-int32_t sx127x_do_rx(uint8_t *image, size_t image_len, uint8_t *log, size_t log_len, size_t used, uint8_t board,
-                     uint8_t rx_mode, uint16_t symbols, int64_t *results, size_t results_len);
+int32_t sx127x_do_rx(uint8_t *image, uint64_t image_len, uint8_t *log, uint64_t log_len, uint64_t used, uint8_t board,
+                     uint8_t rx_mode, uint16_t symbols, int64_t *results, uint64_t results_len);
 
 /* Looks for activity on the channel. */
-int32_t sx127x_do_cad(uint8_t *image, size_t image_len, uint8_t *log, size_t log_len, size_t used, uint8_t board,
-                      int64_t *results, size_t results_len);
+int32_t sx127x_do_cad(uint8_t *image, uint64_t image_len, uint8_t *log, uint64_t log_len, uint64_t used, uint8_t board,
+                      int64_t *results, uint64_t results_len);
 
 /* Transmits a carrier, for tests. */
-int32_t sx127x_set_tx_continuous_wave_mode(uint8_t *image, size_t image_len, uint8_t *log, size_t log_len, size_t used,
-                                           uint8_t board, int64_t *results, size_t results_len);
+int32_t sx127x_set_tx_continuous_wave_mode(uint8_t *image, uint64_t image_len, uint8_t *log, uint64_t log_len,
+                                           uint64_t used, uint8_t board, int64_t *results, uint64_t results_len);
 
 /* ---- packets */
 
 /* Puts a payload into the FIFO and sets its length. */
-int32_t sx127x_set_payload(uint8_t *image, size_t image_len, uint8_t *fifo, size_t fifo_len, uint8_t *log,
-                           size_t log_len, size_t used, const uint8_t *payload, size_t payload_len, int64_t *results,
-                           size_t results_len);
+int32_t sx127x_set_payload(uint8_t *image, uint64_t image_len, uint8_t *fifo, uint64_t fifo_len, uint8_t *log,
+                           uint64_t log_len, uint64_t used, const uint8_t *payload, uint64_t payload_len,
+                           int64_t *results, uint64_t results_len);
 
 /* Takes the packet that was received out of the FIFO. Value: its length. */
-int32_t sx127x_get_rx_payload(uint8_t *image, size_t image_len, const uint8_t *fifo, size_t fifo_len, uint8_t *log,
-                              size_t log_len, size_t used, uint8_t *buffer, size_t buffer_len, int64_t *results,
-                              size_t results_len);
+int32_t sx127x_get_rx_payload(uint8_t *image, uint64_t image_len, const uint8_t *fifo, uint64_t fifo_len, uint8_t *log,
+                              uint64_t log_len, uint64_t used, uint8_t *buffer, uint64_t buffer_len, int64_t *results,
+                              uint64_t results_len);
 
 /* The signal of that packet. Values: RSSI in dBm, SNR in dB. */
-int32_t sx127x_get_rx_packet_status(const uint8_t *image, size_t image_len, uint8_t *log, size_t log_len, size_t used,
-                                    uint8_t board, int64_t *results, size_t results_len);
+int32_t sx127x_get_rx_packet_status(const uint8_t *image, uint64_t image_len, uint8_t *log, uint64_t log_len,
+                                    uint64_t used, uint8_t board, int64_t *results, uint64_t results_len);
 
 /* ---- interrupts */
 
 /* Lets through the interrupts of a mode. rx_mode counts in SX127X_MODE_RECEIVE alone. */
-int32_t sx127x_set_irq_params(uint8_t *image, size_t image_len, uint8_t *log, size_t log_len, size_t used,
-                              uint8_t mode, uint8_t rx_mode, int64_t *results, size_t results_len);
+int32_t sx127x_set_irq_params(uint8_t *image, uint64_t image_len, uint8_t *log, uint64_t log_len, uint64_t used,
+                              uint8_t mode, uint8_t rx_mode, int64_t *results, uint64_t results_len);
 
 /* What came in a mode; clears the flags where asked. Value: an SX127X_EVENT; after SX127X_EVENT_DONE in
  * SX127X_MODE_CHANNEL_ACTIVITY_DETECTION a second one, 1 where there was activity. */
-int32_t sx127x_process_irq_event(uint8_t *image, size_t image_len, uint8_t *log, size_t log_len, size_t used,
-                                 uint8_t mode, uint8_t rx_mode, uint8_t clear, int64_t *results, size_t results_len);
+int32_t sx127x_process_irq_event(uint8_t *image, uint64_t image_len, uint8_t *log, uint64_t log_len, uint64_t used,
+                                 uint8_t mode, uint8_t rx_mode, uint8_t clear, int64_t *results, uint64_t results_len);
 
 /* ---- whole links */
 
 /* Programs a link: network, frequency, modulation, packets and power, in 30 records at most. */
-int32_t sx127x_program(uint8_t *image, size_t image_len, uint8_t *log, size_t log_len, size_t used, uint8_t board,
+int32_t sx127x_program(uint8_t *image, uint64_t image_len, uint8_t *log, uint64_t log_len, uint64_t used, uint8_t board,
                        uint8_t public_network, uint8_t spreading_factor, uint8_t bandwidth, uint8_t coding_rate,
                        uint32_t frequency_in_hz, uint16_t preamble_length, uint8_t implicit_header, uint8_t crc_on,
-                       uint8_t iq_inverted, int32_t power, int64_t *results, size_t results_len);
+                       uint8_t iq_inverted, int32_t power, int64_t *results, uint64_t results_len);
 
 /* Reads the link that an image holds. Values: public network, spreading factor, bandwidth, coding rate, hertz,
  * preamble, implicit header, CRC, IQ, power in dBm. Programming them again changes no register; hertz and power are
  * those that the registers tell, so they may differ from those that were asked for. */
-int32_t sx127x_read_link(const uint8_t *image, size_t image_len, uint8_t board, int64_t *results, size_t results_len);
+int32_t sx127x_read_link(const uint8_t *image, uint64_t image_len, uint8_t board, int64_t *results,
+                         uint64_t results_len);
 
 #ifdef __cplusplus
 }
