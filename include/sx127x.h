@@ -279,14 +279,16 @@ int32_t sx127x_do_cad(uint8_t *image, uint64_t image_len, uint8_t *log, uint64_t
                       int64_t *results, uint64_t results_len);
 
 /* Transmits a carrier, for tests: by the PA_BOOST pin, whatever the board, and with the antenna switch at receive, as
- * the Rust has it.
+ * the Rust has it. The continuous bit of its last record is in the image, and by the sheets does not reach the radio
+ * (docs/DIFFERENCES.md): read the registers anew afterwards.
  * Refusals: 26, 25, 24 (6 records). */
 int32_t sx127x_set_tx_continuous_wave_mode(uint8_t *image, uint64_t image_len, uint8_t *log, uint64_t log_len,
                                            uint64_t used, uint8_t board, int64_t *results, uint64_t results_len);
 
 /* ---- packets */
 
-/* Puts a payload into the FIFO, from place 0 on, and sets its length. The lent FIFO is left as the radio's will be.
+/* Puts a payload into the FIFO, from place 0 on, and sets its length. The lent FIFO is left as the radio's will be. A
+ * payload of no bytes sets the length 0, which the sheets do not permit.
  * Refusals: 26, 12, 24 (4 records). */
 int32_t sx127x_set_payload(uint8_t *image, uint64_t image_len, uint8_t *fifo, uint64_t fifo_len, uint8_t *log,
                            uint64_t log_len, uint64_t used, const uint8_t *payload, uint64_t payload_len,
@@ -315,7 +317,8 @@ int32_t sx127x_set_irq_params(uint8_t *image, uint64_t image_len, uint8_t *log, 
 
 /* What came in a mode, by the flags in the image; clears them where `clear` is 1. rx_mode counts in
  * SX127X_MODE_RECEIVE alone. Value: an SX127X_EVENT; after SX127X_EVENT_DONE in SX127X_MODE_CHANNEL_ACTIVITY_DETECTION
- * a second one, 1 where there was activity.
+ * a second one, 1 where there was activity. A packet whose CRC failed is told as done like any other: PayloadCrcError
+ * (0x20) is in the record of the flags.
  * Refusals: 26, 8 (mode, SX127X_MODE_NONE too; rx_mode; clear), 9 (SX127X_MODE_FREQUENCY_SYNTHESIS;
  * SX127X_RX_DUTY_CYCLE in SX127X_MODE_RECEIVE), 24 (1 record, 2 to clear), 20. */
 int32_t sx127x_process_irq_event(uint8_t *image, uint64_t image_len, uint8_t *log, uint64_t log_len, uint64_t used,
