@@ -9,3 +9,4 @@ pub mod Cells
 pub mod Sequence
 pub mod Stays
 pub mod Left
+pub mod Registers

@@ -4,10 +4,10 @@ ghost use Prim.Native.Nat.{_<_};
 ghost use lib.ListN.{length};
 ghost use Rattle.page.specs.Links.{Accepted};
 ghost use Rattle.reader.specs.Tests.{registers, keeps, keepsAgain, fitsAt};
-use crate::acceptance::accepts;
-use crate::bytes_left::byte_left;
 use params::board::Board;
 use params::mod_params::Link;
+use programming::acceptance::accepts;
+use programming::bytes_left::byte_left;
 use sheets::Variant;
 
 // How many registers of the order a board has.
