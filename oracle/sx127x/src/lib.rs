@@ -6,6 +6,8 @@
 // A call of the driver has as many as it has.
 #![allow(clippy::too_many_arguments)]
 
+use core::mem::size_of;
+
 macro_rules! pointer {
     (shared) => { *const u8 };
     (lent) => { *mut u8 };
@@ -29,17 +31,40 @@ macro_rules! start {
     };
 }
 
+/// The library takes 64 bits for a `usize` on every processor: it was proved for lengths of 64 bits.
+macro_rules! taken {
+    (usize) => {
+        u64
+    };
+    ($type:tt) => {
+        $type
+    };
+}
+
+macro_rules! passed {
+    ($number:ident, usize) => {
+        $number as u64
+    };
+    ($number:ident, $type:tt) => {
+        $number
+    };
+}
+
+// A length loses nothing on its way, and a pointer is as wide as the processor's.
+const _: () = assert!(usize::BITS <= u64::BITS);
+const _: () = assert!(matches!(size_of::<*mut u8>(), 4 | 8) && size_of::<*mut u8>() == size_of::<usize>());
+
 /// A call's slices, its numbers, the slice after them if there is one; `results` come last.
 macro_rules! calls {
     ($($symbol:ident as $name:ident(
-        $($slice:ident: $kind:tt),*; $($number:ident: $type:ty),*; $($last:ident: $last_kind:tt)?
+        $($slice:ident: $kind:tt),*; $($number:ident: $type:tt),*; $($last:ident: $last_kind:tt)?
     );)*) => {
         extern "C" {
             $(fn $symbol(
-                $($slice: pointer!($kind), _: usize,)*
-                $($number: $type,)*
-                $($last: pointer!($last_kind), _: usize,)?
-                results: *mut u64, _: usize,
+                $($slice: pointer!($kind), _: u64,)*
+                $($number: taken!($type),)*
+                $($last: pointer!($last_kind), _: u64,)?
+                results: *mut u64, _: u64,
             ) -> i32;)*
         }
 
@@ -52,10 +77,10 @@ macro_rules! calls {
             // The library reads and writes within the slices it is lent, which do not overlap.
             unsafe {
                 $symbol(
-                    $(start!($kind, $slice), $slice.len(),)*
-                    $($number,)*
-                    $(start!($last_kind, $last), $last.len(),)?
-                    results.as_mut_ptr(), results.len(),
+                    $(start!($kind, $slice), $slice.len() as u64,)*
+                    $(passed!($number, $type),)*
+                    $(start!($last_kind, $last), $last.len() as u64,)?
+                    results.as_mut_ptr(), results.len() as u64,
                 )
             }
         })*
