@@ -10,3 +10,4 @@ pub mod Sequence
 pub mod Stays
 pub mod Left
 pub mod Registers
+pub mod Learnt

@@ -18,6 +18,7 @@ use setup::init::TCXO_FOR_OSCILLATOR;
 use setup::init::syncword;
 use setup::ramps::ramp_value;
 use sheets::Variant;
+use tx_power::levels::pa_dac;
 use tx_power::sx1272;
 use tx_power::sx1276;
 use variants::ALL_BUT_SPREADING_FACTOR;
@@ -78,7 +79,7 @@ fn left_sx1272(tx_boost: bool, tcxo_used: bool, link: Link, register: u8, old: u
         0x1d => config_1_sx1272(link),
         0x1e => config_2_sx1272(link, old),
         0x58 => if tcxo_used { TCXO_FOR_OSCILLATOR } else { old },
-        0x5a => sx1272::pa_dac(link.power, tx_boost),
+        0x5a => pa_dac(Variant::Sx1272, link.power, tx_boost),
         _ => old,
     }
 }
@@ -97,7 +98,7 @@ fn left_sx1276(tx_boost: bool, tcxo_used: bool, link: Link, register: u8, old: u
         0x1e => config_2_sx1276(link, old),
         0x26 => config_3(link, old),
         0x4b => if tcxo_used { TCXO_FOR_OSCILLATOR } else { old },
-        0x4d => sx1276::pa_dac(link.power, tx_boost),
+        0x4d => pa_dac(Variant::Sx1276, link.power, tx_boost),
         _ => old,
     }
 }

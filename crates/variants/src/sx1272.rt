@@ -12,8 +12,8 @@ use bus::modify_register;
 use bus::write_register;
 use params::radio_kind_params::Register;
 use sheets::Variant;
+use tx_power::levels::pa_dac;
 use tx_power::sx1272::pa_config;
-use tx_power::sx1272::pa_dac;
 
 // RegModemConfig1: ImplicitHeaderModeOn and RxPayloadCrcOn, and the rest of it.
 const HEADER_AND_CRC: u8 = 0x06;
@@ -89,7 +89,7 @@ pub fn set_tx_power(
     ensures { λ r. ⌜ Done (amplifier Variant.Sx1272 «tx_boost» «p_out») (now (image .entry)) (now (log .entry)) at r (now (image .exit)) (now (log .exit)) ⌝ }
 {
     let config = pa_config(p_out, tx_boost);
-    let dac = pa_dac(p_out, tx_boost);
+    let dac = pa_dac(Variant::Sx1272, p_out, tx_boost);
     let at = write_register(image, log, at, Register::RegPaConfig, config);
     write_register(image, log, at, Sx1272::REG_PA_DAC, dac)
 }

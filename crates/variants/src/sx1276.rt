@@ -16,9 +16,9 @@ use params::radio_kind_params::Register;
 use params::values::LoRaMode;
 use sheets::Variant;
 use tx_power::PA_BOOST;
+use tx_power::levels::pa_dac;
 use tx_power::sx1276::ocp;
 use tx_power::sx1276::pa_config;
-use tx_power::sx1276::pa_dac;
 
 // What stays of a register while a field of it is written: RegModemConfig1 without Bw, CodingRate, ImplicitHeaderModeOn;
 // RegModemConfig2 without RxPayloadCrcOn; RegModemConfig3 without LowDataRateOptimize and AgcAutoOn.
@@ -134,7 +134,7 @@ pub fn set_tx_power(
     requires { ⌜ (at + 9 ≤ length (now log)) × (length (now image) ≡ 128) ⌝ }
     ensures { λ r. ⌜ Done (amplifier Variant.Sx1276 «tx_boost» «p_out») (now (image .entry)) (now (log .entry)) at r (now (image .exit)) (now (log .exit)) ⌝ }
 {
-    let dac = pa_dac(p_out, tx_boost);
+    let dac = pa_dac(Variant::Sx1276, p_out, tx_boost);
     let trim = ocp(p_out, tx_boost);
     let config = pa_config(p_out, tx_boost);
     let at = write_register(image, log, at, Sx1276::REG_PA_DAC, dac);
