@@ -9,3 +9,5 @@ pub mod Cells
 pub mod Sequence
 pub mod Stays
 pub mod Left
+pub mod Registers
+pub mod Learnt

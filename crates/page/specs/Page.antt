@@ -88,6 +88,11 @@ module _ {S : Type 0} where
   apart [] = true
   apart (p ∷ ps) = free (p .addr) ps && apart ps
 
+-- an address that is none of these
+abbrev pub Outside : List ℕ → ℕ → Type 0
+Outside [] a = Unit {0}
+Outside (e ∷ es) a = Outside es a × (a ≡ e → ⊥)
+
 -- ---- pages
 
 -- The settings, which of them are accepted, the places in the reader's order, and the reader's first guess.

@@ -1,6 +1,8 @@
-// Whether a link is accepted: what refuses it, in the order of the numbers.
+// Whether a link is accepted: what refuses it, in the order of the numbers; and, without that, whether it is.
 ghost use mathlib.Core.Path.{_≡_};
 ghost use Rattle.refusals.specs.Refusals.{linkRefusal};
+ghost use Rattle.page.specs.Links.{accepted};
+ghost use Rattle.page.proofs.Acceptance.{narrowest};
 ghost use Rattle.programming.specs.Parts.{linkNamed, linkHad};
 use modem::parameter_refusals;
 use params::mod_params::Link;
@@ -46,4 +48,66 @@ pub fn link_refusal(variant: Variant, link: Link) -> Verdict
     ensures { λ r. ⌜ r ≡ linkRefusal variant link ⌝ }
 {
     link_named(link).or(link_had(variant, link))
+}
+
+// The first bandwidth that a variant has.
+fn narrowest(variant: Variant) -> u8
+    ensures { λ r. ⌜ r ≡ narrowest variant ⌝ }
+{
+    match variant {
+        Variant::Sx1272 => 7,
+        Variant::Sx1276 => 0,
+    }
+}
+
+pub fn accepts(variant: Variant, link: Link) -> bool
+    ensures { λ r. ⌜ r ≡ accepted variant link ⌝ }
+{
+    let sf = link.spreading_factor;
+    let bw = link.bandwidth;
+    let cr = link.coding_rate;
+    let hz = link.frequency.0;
+    let implicit_header = link.implicit_header;
+    if sf < 6 {
+        return false;
+    }
+    if 12 < sf {
+        return false;
+    }
+    if bw < narrowest(variant) {
+        return false;
+    }
+    if 9 < bw {
+        return false;
+    }
+    if cr < 1 {
+        return false;
+    }
+    if 4 < cr {
+        return false;
+    }
+    if 1 < implicit_header {
+        return false;
+    }
+    if 1 < link.crc_on {
+        return false;
+    }
+    if 1 < link.iq_inverted {
+        return false;
+    }
+    if 1 < link.public_network {
+        return false;
+    }
+    if 1_023_999_999 < hz {
+        return false;
+    }
+    // 250 and 500 kHz want 400 MHz
+    if hz < (bw / 8) as u32 * 400_000_000 {
+        return false;
+    }
+    // spreading factor 6 wants the implicit header
+    if sf + implicit_header < 7 {
+        return false;
+    }
+    true
 }

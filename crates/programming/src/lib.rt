@@ -1,4 +1,4 @@
-// Whole programming of a link: it is refused, or its steps are done.
+// Whole programming of a link: it is refused, or its steps are done; and the byte that it leaves in one register.
 ghost use mathlib.Core.List.{[]};
 ghost use Rattle.params.specs.Answers.{tellsDone, usedDone};
 ghost use Rattle.bus.specs.Call.{Meets};
@@ -13,6 +13,7 @@ use params::mod_params::Verdict;
 use variants::records::program_records;
 
 pub mod acceptance;
+pub mod bytes_left;
 pub mod writes;
 
 pub fn program(image: &mut [u8], log: &mut [u8], used: usize, board: Board, link: Link) -> Answer

@@ -1,6 +1,6 @@
 -- What the reader tests at a register: that the guess from the values so far is accepted, and that it leaves the byte there as it is.
 use mathlib.Core.Bool.{Bool, true, _&&_}
-use mathlib.Core.List.{List}
+use mathlib.Core.List.{List, [], _∷_}
 use Prim.Native.Nat.{ℕ}
 use lib.Dec.{eqb}
 use lib.ListN.{length, getD}
@@ -8,8 +8,8 @@ use Rattle.sheets.specs.Registers.{RegModemConfig1, RegModemConfig2}
 use Rattle.sheets.specs.Reader.{readerOrder}
 use Rattle.params.specs.declared.mod_params.Link.{Link}
 use Rattle.params.specs.declared.board.Board.{Board}
-use Rattle.page.specs.Page.{pick, written, find}
-use Rattle.page.specs.Links.{accepted}
+use Rattle.page.specs.Page.{pick, written, find, Outside}
+use Rattle.page.specs.Links.{accepted, Accepted}
 use Rattle.page.specs.Lora.{placesOf}
 
 -- how many registers of the order a board has
@@ -26,3 +26,7 @@ keepsAgain b l a im = pick (eqb a RegModemConfig2) (keeps b l RegModemConfig1 im
 
 abbrev pub fitsAt : Board → Link → ℕ → List ℕ → Bool
 fitsAt b l a im = accepted (b .variant) l && keepsAgain b l a im
+
+-- acceptance is in question at the modem's first two registers alone
+abbrev pub Assured : Board → Link → ℕ → Type 0
+Assured b l a = Outside (RegModemConfig2 ∷ RegModemConfig1 ∷ []) a → Accepted b l

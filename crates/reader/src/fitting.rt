@@ -2,12 +2,12 @@
 ghost use mathlib.Core.Path.{_≡_};
 ghost use Prim.Native.Nat.{_<_};
 ghost use lib.ListN.{length};
-ghost use Rattle.page.specs.Links.{Accepted};
-ghost use Rattle.reader.specs.Tests.{registers, keeps, keepsAgain, fitsAt};
-use crate::acceptance::accepts;
-use crate::bytes_left::byte_left;
+ghost use Rattle.page.specs.Links.{accepted, Accepted};
+ghost use Rattle.reader.specs.Tests.{registers, keeps, keepsAgain, fitsAt, Assured};
 use params::board::Board;
 use params::mod_params::Link;
+use programming::acceptance::accepts;
+use programming::bytes_left::byte_left;
 use sheets::Variant;
 
 // How many registers of the order a board has.
@@ -48,13 +48,26 @@ fn keeps_again(image: &[u8], board: Board, link: Link, register: u8) -> bool
     keeps(image, board, link, register)
 }
 
+// Any register but the modem's first two leaves a guess accepted that was.
+fn still_accepted(board: Board, guess: Link, register: u8) -> bool
+    requires { ⌜ Assured board guess register ⌝ }
+    ensures { λ r. ⌜ r ≡ accepted (board .variant) guess ⌝ }
+{
+    let variant = board.variant;
+    match register {
+        0x1d => accepts(variant, guess),
+        0x1e => accepts(variant, guess),
+        _ => true,
+    }
+}
+
 // Whether a guess fits a register: it is accepted, and leaves the register as it is.
 pub fn fits(image: &[u8], board: Board, guess: Link, register: u8) -> bool
     requires { ⌜ (length (now image) ≡ 128) × (register < 128) ⌝ }
+    requires { ⌜ Assured board guess register ⌝ }
     ensures { λ r. ⌜ r ≡ fitsAt board guess register (now (image .entry)) ⌝ }
 {
-    let variant = board.variant;
-    if !accepts(variant, guess) {
+    if !still_accepted(board, guess, register) {
         return false;
     }
     keeps_again(image, board, guess, register)

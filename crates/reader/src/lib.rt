@@ -15,8 +15,6 @@ use params::mod_params::Link;
 use params::mod_params::RadioError;
 use params::units::Hertz;
 
-pub mod acceptance;
-pub mod bytes_left;
 pub mod fitting;
 pub mod power_shown;
 pub mod registers;

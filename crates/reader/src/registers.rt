@@ -3,7 +3,6 @@ ghost use mathlib.Core.Path.{_≡_};
 ghost use Prim.Native.Nat.{_<_, _^_};
 ghost use Rattle.page.specs.Page.{improved, find};
 ghost use Rattle.page.specs.Lora.{tuned, powered, announced, shaped, frf-msb, frf-mid, frf-lsb, pa-config, pa-dac, config-1, config-2, invert-iq, sync-word, placesOf};
-use crate::bytes_left;
 use crate::power_shown::power_shown;
 use crate::power_shown::power_shown_with;
 use modem::inversion::INVERT_IQ_RX;
@@ -12,6 +11,7 @@ use params::mod_params::Link;
 use params::units::Steps;
 use setup::init::LORA_MAC_PUBLIC_SYNCWORD;
 use sheets::Variant;
+use tx_power::sx1272;
 
 // At 125 kHz every frequency is accepted.
 fn tuned(guess: Link, count: Steps) -> Link
@@ -89,7 +89,7 @@ fn pa_config(guess: Link, board: Board, value: u8) -> Link
 fn pa_dac(guess: Link, tx_boost: bool, value: u8) -> Link
     ensures { λ r. ⌜ r ≡ pa-dac Variant.Sx1272 «tx_boost» .learn value guess ⌝ }
 {
-    let config = bytes_left::pa_config(Variant::Sx1272, tx_boost, guess.power);
+    let config = sx1272::pa_config(guess.power, tx_boost);
     powered(guess, power_shown_with(tx_boost, config, value))
 }
 

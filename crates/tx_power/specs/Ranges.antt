@@ -17,8 +17,3 @@ level low high p = natAbs (bounded low high p -ℤ low)
 -- c lies in the range of an output
 abbrev pub InRange : Variant → Bool → ℤ → Type 0
 InRange v boost c = (least v boost ≤ℤ c) × (c ≤ℤ most boost)
-
--- RegPaDac by a power: on PA_BOOST 18 to 20 dBm have the +20 dBm setting
-abbrev pub dacBy : Bool → ℤ → ℕ
-dacBy true c = cond (ltZ c (pos 18)) 0x84 (cond (ltZ c (pos 21)) 0x87 0x84)
-dacBy false c = 0x84

@@ -1,8 +1,10 @@
-// Transmit power in dBm, as both variants treat it: held to a range, counted from the least of one, and the +20 dBm setting.
+// Transmit power in dBm, as both variants treat it: held to an output's range, counted from the least of one, and the +20 dBm setting.
 ghost use mathlib.Core.Path.{_≡_};
 ghost use lib.IntN.{pos, _+ℤ_};
 ghost use lib.Signed.{_≤ℤ_};
-ghost use Rattle.tx_power.specs.Ranges.{bounded, level, dacBy};
+ghost use Rattle.sheets.specs.Power.{clamped, paDac};
+ghost use Rattle.tx_power.specs.Ranges.{bounded, level};
+use sheets::Variant;
 
 const PA_DAC_20DBM_ON: u8 = 0x87;
 
@@ -29,10 +31,24 @@ pub fn level(p: i32, least: i32, most: i32) -> u8
     (txp - least) as u8
 }
 
-// RegPaDac, which is the same on both variants.
-pub fn pa_dac(txp: i32, tx_boost: bool) -> u8
-    ensures { λ r. ⌜ r ≡ dacBy «tx_boost» txp ⌝ }
+// The power that an output takes, in dBm: PA_BOOST has 2 to 20, RFO -1 to 14 on the SX1272 and -4 to 14 on the SX1276.
+pub fn clamped_power(variant: Variant, p_out: i32, tx_boost: bool) -> i32
+    ensures { λ r. ⌜ r ≡ clamped variant «tx_boost» «p_out» ⌝ }
 {
+    if tx_boost {
+        return clamp(p_out, 2, 20);
+    }
+    match variant {
+        Variant::Sx1272 => clamp(p_out, -1, 14),
+        Variant::Sx1276 => clamp(p_out, -4, 14),
+    }
+}
+
+// RegPaDac, which is the same on both variants.
+pub fn pa_dac(variant: Variant, p_out: i32, tx_boost: bool) -> u8
+    ensures { λ r. ⌜ r ≡ paDac variant «tx_boost» «p_out» ⌝ }
+{
+    let txp = clamped_power(variant, p_out, tx_boost);
     if tx_boost {
         match txp {
             18..=20 => PA_DAC_20DBM_ON,

@@ -1,9 +1,8 @@
 // The SX1276's outputs, PA_BOOST and RFO.
 ghost use mathlib.Core.Path.{_≡_};
-ghost use Rattle.sheets.specs.Power.{clamped, ocp, paConfig};
-ghost use Rattle.tx_power.specs.Ranges.{InRange};
+ghost use Rattle.sheets.specs.Power.{ocp, paConfig};
 use crate::PA_BOOST;
-use crate::levels::clamp;
+use crate::levels::clamped_power;
 use crate::levels::level;
 use sheets::Variant;
 
@@ -14,21 +13,10 @@ const OCP_TRIM_100MA: u8 = 0x2b;
 
 const MAX_POWER7_NO_PA_BOOST: u8 = 0x70;
 
-// In dBm: PA_BOOST has 2 to 20, RFO -4 to 14.
-pub fn clamped_power(p_out: i32, tx_boost: bool) -> i32
-    ensures { λ r. ⌜ r ≡ clamped Variant.Sx1276 «tx_boost» «p_out» ⌝ }
+pub fn ocp(p_out: i32, tx_boost: bool) -> u8
+    ensures { λ r. ⌜ r ≡ ocp «tx_boost» «p_out» ⌝ }
 {
-    if tx_boost {
-        clamp(p_out, 2, 20)
-    } else {
-        clamp(p_out, -4, 14)
-    }
-}
-
-pub fn ocp(txp: i32, tx_boost: bool) -> u8
-    requires { ⌜ InRange Variant.Sx1276 «tx_boost» txp ⌝ }
-    ensures { λ r. ⌜ r ≡ ocp «tx_boost» txp ⌝ }
-{
+    let txp = clamped_power(Variant::Sx1276, p_out, tx_boost);
     if tx_boost {
         match txp {
             18..=20 => OCP_TRIM_240MA,
@@ -41,10 +29,10 @@ pub fn ocp(txp: i32, tx_boost: bool) -> u8
 
 // The Rust's way: from 18 dBm on the level spills out of the four power bits, and below 0 dBm the bits of a negative byte,
 // 0xfc for -4, set PaSelect too.
-pub fn pa_config(txp: i32, tx_boost: bool) -> u8
-    requires { ⌜ InRange Variant.Sx1276 «tx_boost» txp ⌝ }
-    ensures { λ r. ⌜ r ≡ paConfig Variant.Sx1276 «tx_boost» txp ⌝ }
+pub fn pa_config(p_out: i32, tx_boost: bool) -> u8
+    ensures { λ r. ⌜ r ≡ paConfig Variant.Sx1276 «tx_boost» «p_out» ⌝ }
 {
+    let txp = clamped_power(Variant::Sx1276, p_out, tx_boost);
     if tx_boost {
         PA_BOOST | level(txp, 2, 20)
     } else {

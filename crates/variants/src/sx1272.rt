@@ -13,7 +13,6 @@ use bus::write_register;
 use params::radio_kind_params::Register;
 use sheets::Variant;
 use tx_power::levels::pa_dac;
-use tx_power::sx1272::clamped_power;
 use tx_power::sx1272::pa_config;
 
 // RegModemConfig1: ImplicitHeaderModeOn and RxPayloadCrcOn, and the rest of it.
@@ -89,9 +88,8 @@ pub fn set_tx_power(
     requires { ⌜ (at + 6 ≤ length (now log)) × (length (now image) ≡ 128) ⌝ }
     ensures { λ r. ⌜ Done (amplifier Variant.Sx1272 «tx_boost» «p_out») (now (image .entry)) (now (log .entry)) at r (now (image .exit)) (now (log .exit)) ⌝ }
 {
-    let txp = clamped_power(p_out, tx_boost);
-    let config = pa_config(txp, tx_boost);
-    let dac = pa_dac(txp, tx_boost);
+    let config = pa_config(p_out, tx_boost);
+    let dac = pa_dac(Variant::Sx1272, p_out, tx_boost);
     let at = write_register(image, log, at, Register::RegPaConfig, config);
     write_register(image, log, at, Sx1272::REG_PA_DAC, dac)
 }

@@ -17,7 +17,6 @@ use params::values::LoRaMode;
 use sheets::Variant;
 use tx_power::PA_BOOST;
 use tx_power::levels::pa_dac;
-use tx_power::sx1276::clamped_power;
 use tx_power::sx1276::ocp;
 use tx_power::sx1276::pa_config;
 
@@ -135,10 +134,9 @@ pub fn set_tx_power(
     requires { ⌜ (at + 9 ≤ length (now log)) × (length (now image) ≡ 128) ⌝ }
     ensures { λ r. ⌜ Done (amplifier Variant.Sx1276 «tx_boost» «p_out») (now (image .entry)) (now (log .entry)) at r (now (image .exit)) (now (log .exit)) ⌝ }
 {
-    let txp = clamped_power(p_out, tx_boost);
-    let dac = pa_dac(txp, tx_boost);
-    let trim = ocp(txp, tx_boost);
-    let config = pa_config(txp, tx_boost);
+    let dac = pa_dac(Variant::Sx1276, p_out, tx_boost);
+    let trim = ocp(p_out, tx_boost);
+    let config = pa_config(p_out, tx_boost);
     let at = write_register(image, log, at, Sx1276::REG_PA_DAC, dac);
     let at = write_register(image, log, at, Register::RegOcp, trim);
     write_register(image, log, at, Register::RegPaConfig, config)

@@ -13,7 +13,12 @@ use lib.Dec.{T}
 use denote.Ref.{now}
 use Rattle.page.specs.Page.{Image, guess as guessed, first, fits}
 use Rattle.page.specs.Lora.{page}
+use Rattle.page.specs.Links.{Accepted}
+use Rattle.page.proofs.Prefix.{fit-accepted}
+use Rattle.page.proofs.Lawful.{lawful}
+use Rattle.page.proofs.Learnt.{still-accepted}
 use Rattle.reader.specs.Look.{Fit}
+use Rattle.reader.specs.Tests.{Assured}
 use Rattle.reader.proofs.fitting.Order.{order-lt, order-le}
 use Rattle.reader.proofs.SoFar.{so-far, next-guess, begins}
 use Rattle.reader.proofs.look.Statement.{statement}
@@ -54,6 +59,18 @@ improved-guess c =
     let a = r .before .before .args in
     let next = next-guess (a .board) (l .loop .i) (omega (arith, r .registers .ensures)) (now (a .image)) (l .loop .guess) (l .loop .inv .1) in
     rw (add-one (l .loop .i)) ((rw (o .reader-order .ensures) at (c .learn .ensures)) ∙ next)
+
+-- the guess before was accepted, so that acceptance is in question at two registers alone
+assured : (c : tie.After-learn Inv-loop μ-loop) → let o = c .before .before in let r = o .before .before .before .before in Assured (r .before .before .args .board) (c .learn .result) (o .reader-order .result)
+assured c outside =
+    let o = c .before .before in
+    let l = o .before .before in
+    let r = l .before .before in
+    let a = r .before .before .args in
+    let b = a .board in
+    let i = l .loop .i in
+    let before : Accepted b (l .loop .guess) = rw (l .loop .inv .1) (fit-accepted (page b) (lawful b) i (now (a .image)) (l .loop .inv .2 i (omega arith))) in
+    rw (c .learn .ensures) (still-accepted b (o .reader-order .result) _ (l .loop .guess) outside (image-is (r .before) .byte (o .reader-order .result)) before)
 
 -- the test at the register tells whether the values with its own fit
 told : (c : tie.After-fits2 Inv-loop μ-loop) → let l = c .before .before .before .before .before in let a = l .before .before .before .before .args in
@@ -117,7 +134,7 @@ look-spec =
     (λ c. omega (arith, register-lt (c .before)))
     (λ c κs. search needs)
     (λ c. search needs)
-    (λ c κs. (search needs, register-lt (c .before .before)))
+    (λ c κs. ((search needs, register-lt (c .before .before)), assured c))
     returns
     (λ c. search needs)
     loop-again

@@ -1,4 +1,4 @@
--- What the place of each register tells, found by its address.
+-- What the places that differ by variant tell, and that the others tell nothing new.
 -- Assumes nothing.
 use mathlib.Core.Path.{_≡_, refl, sym, ap, subst}
 use mathlib.Core.Logic.{_⊎_, inl, inr}
@@ -11,54 +11,13 @@ use borrow.Author.Tests.{eqb-true}
 use Rattle.sheets.specs.declared.Variant.{Variant}
 use Rattle.sheets.specs.declared.Variant.the-variants.{Sx1272, Sx1276}
 use Rattle.params.specs.declared.mod_params.Link.{Link}
-use Rattle.params.specs.declared.board.Board.{Board}
-use Rattle.page.specs.Page.{Place, improved, find, pick}
+use Rattle.page.specs.Page.{Place, improved, find, pick, Outside}
 use Rattle.page.specs.Lora as L
-use Rattle.page.specs.Lora.{places, placesOf}
+use Rattle.page.specs.Lora.{places}
 use Rattle.page.proofs.Acceptance.{_▸_}
+use Rattle.page.proofs.Registers.{member, not-member}
 
 -- ---- registers that tell something
-
--- a place that is found on each variant is found on every board
-module _ (a : ℕ) (p : Variant → Bool → Place Link)
-    (on-72 : (boost tcxo : Bool) → find a (places Sx1272 boost tcxo) ≡ p Sx1272 boost)
-    (on-76 : (boost tcxo : Bool) → find a (places Sx1276 boost tcxo) ≡ p Sx1276 boost) where
-  by : (v : Variant) (boost tcxo : Bool) → find a (places v boost tcxo) ≡ p v boost
-  by Sx1272 = on-72
-  by Sx1276 = on-76
-
-  pub found-at : (b : Board) → find a (placesOf b) ≡ p (b .variant) (b .«tx_boost»)
-  found-at b = by (b .variant) (b .«tx_boost») (b .«tcxo_used»)
-
-pub at-06 : (b : Board) → find 0x06 (placesOf b) ≡ L.frf-msb
-at-06 = found-at 0x06 (λ v boost. L.frf-msb) (λ boost tcxo. refl) (λ boost tcxo. refl)
-
-pub at-07 : (b : Board) → find 0x07 (placesOf b) ≡ L.frf-mid
-at-07 = found-at 0x07 (λ v boost. L.frf-mid) (λ boost tcxo. refl) (λ boost tcxo. refl)
-
-pub at-08 : (b : Board) → find 0x08 (placesOf b) ≡ L.frf-lsb
-at-08 = found-at 0x08 (λ v boost. L.frf-lsb) (λ boost tcxo. refl) (λ boost tcxo. refl)
-
-pub at-09 : (b : Board) → find 0x09 (placesOf b) ≡ L.pa-config (b .variant) (b .«tx_boost»)
-at-09 = found-at 0x09 (λ v boost. L.pa-config v boost) (λ boost tcxo. refl) (λ boost tcxo. refl)
-
-pub at-1d : (b : Board) → find 0x1d (placesOf b) ≡ L.config-1 (b .variant)
-at-1d = found-at 0x1d (λ v boost. L.config-1 v) (λ boost tcxo. refl) (λ boost tcxo. refl)
-
-pub at-1e : (b : Board) → find 0x1e (placesOf b) ≡ L.config-2 (b .variant)
-at-1e = found-at 0x1e (λ v boost. L.config-2 v) (λ boost tcxo. refl) (λ boost tcxo. refl)
-
-pub at-20 : (b : Board) → find 0x20 (placesOf b) ≡ L.preamble-msb
-at-20 = found-at 0x20 (λ v boost. L.preamble-msb) (λ boost tcxo. refl) (λ boost tcxo. refl)
-
-pub at-21 : (b : Board) → find 0x21 (placesOf b) ≡ L.preamble-lsb
-at-21 = found-at 0x21 (λ v boost. L.preamble-lsb) (λ boost tcxo. refl) (λ boost tcxo. refl)
-
-pub at-33 : (b : Board) → find 0x33 (placesOf b) ≡ L.invert-iq
-at-33 = found-at 0x33 (λ v boost. L.invert-iq) (λ boost tcxo. refl) (λ boost tcxo. refl)
-
-pub at-39 : (b : Board) → find 0x39 (placesOf b) ≡ L.sync-word
-at-39 = found-at 0x39 (λ v boost. L.sync-word) (λ boost tcxo. refl) (λ boost tcxo. refl)
 
 -- the first modem register is written whole on either variant
 pub told-1d : (w : Variant) (v : ℕ) (t : Link) → improved (L.config-1 w) v t ≡ L.config-1 w .learn v t
@@ -75,27 +34,10 @@ told-5a-76 boost false v t = refl
 
 -- ---- all the others tell nothing new
 
--- a is none of these
-abbrev pub Outside : List ℕ → ℕ → Type 0
-Outside [] a = Unit {0}
-Outside (e ∷ es) a = Outside es a × (a ≡ e → ⊥)
-
-abbrev pub member : ℕ → List ℕ → Bool
-member a [] = false
-member a (e ∷ es) = cond (eqb a e) true (member a es)
-
 -- each place is of a register among these or tells nothing
 abbrev Quiet : List ℕ → List (Place Link) → Type 0
 Quiet es [] = Unit {0}
 Quiet es (p ∷ ps) = (T (member (p .addr) es) ⊎ ((v : ℕ) (t : Link) → p .learn v t ≡ t)) × Quiet es ps
-
-pub not-member : (es : List ℕ) (a : ℕ) → Outside es a → T (member a es) → ⊥
-not-member [] a o m = m
-not-member (e ∷ es) a (o, n) m = by (eqb a e) refl (not-member es a o) m
-  where
-    by : (t : Bool) → eqb a e ≡ t → (T (member a es) → ⊥) → T (cond t true (member a es)) → ⊥
-    by true q r u = n (eqb-true a e q)
-    by false q r u = r u
 
 quiet : (es : List ℕ) (ps : List (Place Link)) → Quiet es ps → (a : ℕ) → Outside es a → (v : ℕ) (t : Link) → improved (find a ps) v t ≡ t
 quiet es [] q a o v t = refl

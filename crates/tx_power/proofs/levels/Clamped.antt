@@ -2,10 +2,10 @@
 -- Assumes nothing.
 use mathlib.Core.Path.{_≡_, refl, subst}
 use mathlib.Core.Bool.{Bool, true, false, cond}
-use Prim.Native.Nat.{ℕ}
+use Prim.Native.Nat.{ℕ, suc}
 use native.Mathlib.Omega.{arith}
 use borrow.Author.Tests.{le-ltb}
-use lib.Dec.{T, leb→le}
+use lib.Dec.{T, eqb, leb→le}
 use lib.IntN.{ℤ, pos, negsuc, _+ℤ_}
 use lib.Signed.{ltZ, _≤ℤ_, leZ-yes, ltZ-no, ≤ℤ-refl}
 use Rattle.sheets.specs.declared.Variant.{Variant}
@@ -13,7 +13,7 @@ use Rattle.sheets.specs.declared.Variant.the-variants.{Sx1272, Sx1276}
 use Rattle.sheets.specs.Power.{least, most, clamped, paConfig, paDac, ocp}
 use Rattle.tx_power.specs.Ranges.{bounded, InRange}
 use Rattle.sheets.proofs.Sweep.{every}
-use Rattle.tx_power.proofs.levels.Whole.{Above, above, among-test}
+use Rattle.tx_power.proofs.levels.Whole.{Above, above, among-test, among}
 
 -- a test that failed
 at-least : (low z : ℤ) → ltZ z low ≡ false → low ≤ℤ z
@@ -59,9 +59,6 @@ again v boost p = kept v boost (clamped v boost p) (clamped-range v boost p)
 
 -- what the registers hold by the clamped power c is what they hold by the power that was asked
 module _ (v : Variant) (boost : Bool) (p : ℤ) {c : ℤ} (is : c ≡ clamped v boost p) where
-  pub in-range : InRange v boost c
-  in-range = rw is (clamped-range v boost p)
-
   pub config-of : paConfig v boost c ≡ paConfig v boost p
   unfolding paConfig
   config-of = rw (is, again v boost p)
@@ -73,6 +70,24 @@ module _ (v : Variant) (boost : Bool) (p : ℤ) {c : ℤ} (is : c ≡ clamped v 
 pub ocp-of : (boost : Bool) (p : ℤ) {c : ℤ} → c ≡ clamped Sx1276 boost p → ocp boost c ≡ ocp boost p
 unfolding ocp
 ocp-of boost p is = rw (is, again Sx1276 boost p)
+
+-- how far the range of an output goes
+abbrev span : Variant → Bool → ℕ
+span v true = 18
+span Sx1272 false = 15
+span Sx1276 false = 18
+
+ends : (v : Variant) (boost : Bool) → most boost ≡ least v boost +ℤ pos (span v boost)
+ends v true = refl
+ends Sx1272 false = refl
+ends Sx1276 false = refl
+
+-- two functions that are equal at each power of an output
+pub same-at : (v : Variant) (boost : Bool) (f g : ℤ → ℕ) → T (every (λ k. eqb (f (least v boost +ℤ pos k)) (g (least v boost +ℤ pos k))) 0 (suc (span v boost)))
+    → (p : ℤ) → f (clamped v boost p) ≡ g (clamped v boost p)
+same-at v boost f g t p =
+    let r = clamped-range v boost p in
+    among (least v boost) (span v boost) f g t (clamped v boost p) (r .0) (subst (λ (z : ℤ). clamped v boost p ≤ℤ z) (ends v boost) (r .1))
 
 -- a test that passes at each power of each output
 pub at-clamped : (f : Variant → Bool → ℤ → Bool)

@@ -1,6 +1,6 @@
 -- Whole numbers of a range: each is so many above the least, so a fact of all of them is one computed test.
 -- Assumes nothing.
-use mathlib.Core.Path.{_≡_, refl, ap}
+use mathlib.Core.Path.{_≡_, refl, ap, _∙_}
 use mathlib.Core.Bool.{Bool, true, false, cond}
 use Prim.Native.Nat.{ℕ, suc, _+_, _-_, _^_, _≤_, _<_}
 use native.Mathlib.Omega.{arith}
@@ -16,6 +16,10 @@ use Rattle.sheets.proofs.Sweep.{every, at}
 -- an i32 is read back from its bits as it was
 pub held : (z : ℤ) → mag z < 2 ^ 31 → toZ w32 (ofZ w32 z) ≡ z
 held z h = toZ-ofZ w32 z (record { sfits = h })
+
+-- so a call is handed the number that another one answered
+pub handed : {z w : ℤ} → mag z < 2 ^ 31 → z ≡ w → toZ w32 (ofZ w32 z) ≡ w
+handed {z} h e = held z h ∙ e
 
 -- z lies `by` above low, and `by` is at most n
 pub record Above (low z : ℤ) (n : ℕ) : Type 0 where

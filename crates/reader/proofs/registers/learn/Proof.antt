@@ -3,7 +3,8 @@
 use borrow.Author.Needs.{needs}
 use mathlib.Core.Path.{sym, _∙_}
 use native.Mathlib.Nat.{sub-zero}
-use Rattle.reader.proofs.registers.Places.{at-06, at-07, at-08, at-09, at-1d, at-1e, at-20, at-21, at-33, at-39, told-1d, told-others}
+use Rattle.page.proofs.Registers.{at-06, at-07, at-08, at-09, at-1d, at-1e, at-20, at-21, at-33, at-39}
+use Rattle.reader.proofs.registers.Places.{told-1d, told-others}
 use Rattle.reader.proofs.registers.learn.Statement.{statement}
 use Rattle.reader.proofs.registers.learn.Tie as tie
 

@@ -1,17 +1,20 @@
 -- `tx_power::sx1276::ocp` meets its contract: what the bracket gives is the definition at each power of the range.
 -- Assumes nothing.
+use borrow.Author.Needs.{needs}
 use mathlib.Core.Path.{_≡_}
 use mathlib.Core.Bool.{Bool, true, false, cond}
-use Prim.Native.Nat.{ℕ}
+use Prim.Native.Nat.{ℕ, _+_}
 use lib.IntN.{ℤ, pos, negsuc}
 use lib.Signed.{ltZ}
 use mir.Syntax.{w32}
 use mir.Val.{toZ, ofZ}
 use mir.ValLaws.{toZ-ofZ}
 use Rattle.sheets.specs.declared.Variant.the-variants.{Sx1276}
-use Rattle.sheets.specs.Power.{clamped, ocp}
-use Rattle.tx_power.specs.Ranges.{InRange}
-use Rattle.tx_power.proofs.levels.Whole.{among}
+use Rattle.sheets.specs.Bits.{at}
+use Rattle.sheets.specs.Registers.{OcpOn, OcpTrim}
+use Rattle.sheets.specs.Power.{clamped, strong, ocp}
+use Rattle.tx_power.proofs.levels.Whole.{handed}
+use Rattle.tx_power.proofs.levels.Clamped.{same-at}
 use Rattle.tx_power.proofs.sx1276.ocp.Statement.{statement}
 use Rattle.tx_power.proofs.sx1276.ocp.Tie as tie
 
@@ -19,13 +22,18 @@ abbrev told : Bool → ℤ → ℕ
 told true z = cond (ltZ z (pos 18)) 0x2b (cond (ltZ z (pos 21)) 0x3b 0x2b)
 told false z = 0x2b
 
-right : (boost : Bool) (z : ℤ) → InRange Sx1276 boost z → told boost z ≡ ocp boost z
-unfolding ocp clamped
-right true z r = among (pos 2) 18 (told true) (ocp true) tt z (r .0) (r .1)
-right false z r = among (negsuc 3) 18 (told false) (ocp false) tt z (r .0) (r .1)
+abbrev sheet : Bool → ℤ → ℕ
+sheet boost c = at OcpOn 1 + at OcpTrim (cond (strong boost c) 0x1b 0x0b)
 
-answer : (c : tie.Start) → told (c .args .tx-boost) (toZ w32 (ofZ w32 (c .args .txp))) ≡ ocp (c .args .tx-boost) (c .args .txp)
-answer c = rw (toZ-ofZ w32 _ (c .fits .txp)) (right (c .args .tx-boost) (c .args .txp) (c .pre))
+right : (boost : Bool) (p : ℤ) → told boost (clamped Sx1276 boost p) ≡ ocp boost p
+unfolding ocp
+right true p = same-at Sx1276 true (told true) (sheet true) tt p
+right false p = same-at Sx1276 false (told false) (sheet false) tt p
+
+answer : (c : tie.After-clamped-power) → let a = c .before .args in told (a .tx-boost) (toZ w32 (ofZ w32 (c .clamped-power .result))) ≡ ocp (a .tx-boost) (a .p-out)
+answer c =
+    let s = c .before in
+    rw (handed (c .clamped-power .ok) (rw (toZ-ofZ w32 _ (s .fits .p-out)) at (c .clamped-power .ensures))) (right (s .args .tx-boost) (s .args .p-out))
 
 returns : tie.Need-returns
 returns c =
@@ -49,6 +57,7 @@ pub ocp-spec : {M : Type 1} → statement M
 ocp-spec =
     tie.close
     (tie.spec
+    (λ c κs. search needs)
     returns
     returns-2
     returns-3

@@ -1,4 +1,4 @@
--- `tx_power::sx1276::pa_config` meets its contract: what each bracket gives is the definition at each power of the range.
+-- `tx_power::sx1276::pa_config` meets its contract: what each bracket gives is the definition at each power of the output.
 -- Assumes nothing.
 use borrow.Author.Needs.{needs}
 use mathlib.Core.Path.{_≡_}
@@ -12,9 +12,10 @@ use mir.Syntax.{w32}
 use mir.Val.{toZ, ofZ}
 use mir.ValLaws.{toZ-ofZ}
 use Rattle.sheets.specs.declared.Variant.the-variants.{Sx1276}
-use Rattle.sheets.specs.Power.{clamped, paConfig}
-use Rattle.tx_power.specs.Ranges.{level, InRange}
-use Rattle.tx_power.proofs.levels.Whole.{among}
+use Rattle.sheets.specs.Power.{clamped, outputs, paConfig}
+use Rattle.tx_power.specs.Ranges.{level}
+use Rattle.tx_power.proofs.levels.Whole.{handed}
+use Rattle.tx_power.proofs.levels.Clamped.{same-at}
 use Rattle.tx_power.proofs.sx1276.pa_config.Statement.{statement}
 use Rattle.tx_power.proofs.sx1276.pa_config.Tie as tie
 
@@ -24,13 +25,15 @@ told false z =
     cond (ltZ z (negsuc 3)) (bitOr 0x70 (level (pos 0) (pos 14) z))
     (cond (ltZ z (pos 0)) (bitOr 0xfc (level (negsuc 3) (negsuc 0) z)) (bitOr 0x70 (level (pos 0) (pos 14) z)))
 
-right : (boost : Bool) (z : ℤ) → InRange Sx1276 boost z → told boost z ≡ paConfig Sx1276 boost z
-unfolding paConfig clamped level
-right true z r = among (pos 2) 18 (told true) (paConfig Sx1276 true) tt z (r .0) (r .1)
-right false z r = among (negsuc 3) 18 (told false) (paConfig Sx1276 false) tt z (r .0) (r .1)
+right : (boost : Bool) (p : ℤ) → told boost (clamped Sx1276 boost p) ≡ paConfig Sx1276 boost p
+unfolding paConfig level
+right true p = same-at Sx1276 true (told true) (outputs Sx1276 true) tt p
+right false p = same-at Sx1276 false (told false) (outputs Sx1276 false) tt p
 
-answer : (c : tie.Start) → told (c .args .tx-boost) (toZ w32 (ofZ w32 (c .args .txp))) ≡ paConfig Sx1276 (c .args .tx-boost) (c .args .txp)
-answer c = rw (toZ-ofZ w32 _ (c .fits .txp)) (right (c .args .tx-boost) (c .args .txp) (c .pre))
+answer : (c : tie.After-clamped-power) → let a = c .before .args in told (a .tx-boost) (toZ w32 (ofZ w32 (c .clamped-power .result))) ≡ paConfig Sx1276 (a .tx-boost) (a .p-out)
+answer c =
+    let s = c .before in
+    rw (handed (c .clamped-power .ok) (rw (toZ-ofZ w32 _ (s .fits .p-out)) at (c .clamped-power .ensures))) (right (s .args .tx-boost) (s .args .p-out))
 
 returns : tie.Need-returns
 returns c =
@@ -54,6 +57,7 @@ pub pa-config-spec : {M : Type 1} → statement M
 pa-config-spec =
     tie.close
     (tie.spec
+    (λ c κs. search needs)
     (λ c κs. search needs)
     (λ c κs. search needs)
     (λ c κs. search needs)

@@ -1,12 +1,12 @@
--- `reader::bytes_left::config_1_sx1276` meets its contract: each field in its place.
+-- `programming::bytes_left::config_1_sx1276` meets its contract: each field in its place.
 -- Assumes nothing.
 use Prim.Native.Nat.{_≤_}
 use native.Mathlib.Omega.{arith}
 use Rattle.sheets.specs.declared.Variant.the-variants.{Sx1276}
 use Rattle.sheets.proofs.Modem.{code-76}
 use Rattle.page.proofs.Acceptance.{ranges}
-use Rattle.reader.proofs.bytes_left.config_1_sx1276.Statement.{statement}
-use Rattle.reader.proofs.bytes_left.config_1_sx1276.Tie as tie
+use Rattle.programming.proofs.bytes_left.config_1_sx1276.Statement.{statement}
+use Rattle.programming.proofs.bytes_left.config_1_sx1276.Tie as tie
 
 small : (c : tie.After-bandwidth-code) → let l = c .before .args .link in (c .bandwidth-code .result ≤ 9) × (l .«coding_rate» ≤ 4) × (l .«implicit_header» ≤ 1)
 small c =

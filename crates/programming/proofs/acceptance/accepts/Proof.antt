@@ -1,4 +1,4 @@
--- `reader::acceptance::accepts` meets its contract: acceptance is that the numbers are in their ranges.
+-- `programming::acceptance::accepts` meets its contract: acceptance is that the numbers are in their ranges.
 -- Assumes nothing.
 use borrow.Author.Needs.{needs}
 use mathlib.Core.Path.{_≡_, refl}
@@ -9,8 +9,8 @@ use Rattle.sheets.specs.declared.Variant.{Variant}
 use Rattle.params.specs.declared.mod_params.Link.{Link}
 use Rattle.page.specs.Links.{accepted}
 use Rattle.page.proofs.Acceptance.{Ranges, ranges, accepts}
-use Rattle.reader.proofs.acceptance.accepts.Statement.{statement}
-use Rattle.reader.proofs.acceptance.accepts.Tie as tie
+use Rattle.programming.proofs.acceptance.accepts.Statement.{statement}
+use Rattle.programming.proofs.acceptance.accepts.Tie as tie
 
 is-true : (t : Bool) → T t → true ≡ t
 is-true true h = refl

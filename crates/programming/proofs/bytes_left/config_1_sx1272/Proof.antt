@@ -1,12 +1,12 @@
--- `reader::bytes_left::config_1_sx1272` meets its contract: each field in its place.
+-- `programming::bytes_left::config_1_sx1272` meets its contract: each field in its place.
 -- Assumes nothing.
 use Prim.Native.Nat.{ℕ, _≤_}
 use native.Mathlib.Omega.{arith}
 use Rattle.sheets.specs.declared.Variant.the-variants.{Sx1272}
 use Rattle.sheets.proofs.Modem.{optimize-le, code-72}
 use Rattle.page.proofs.Acceptance.{ranges}
-use Rattle.reader.proofs.bytes_left.config_1_sx1272.Statement.{statement}
-use Rattle.reader.proofs.bytes_left.config_1_sx1272.Tie as tie
+use Rattle.programming.proofs.bytes_left.config_1_sx1272.Statement.{statement}
+use Rattle.programming.proofs.bytes_left.config_1_sx1272.Tie as tie
 
 -- the values in the fields
 record Small (code cr implicit crc flag : ℕ) : Type 0 where

@@ -1,11 +1,11 @@
--- `reader::bytes_left::config_2_sx1272` meets its contract: the spreading factor is at most 12.
+-- `programming::bytes_left::config_2_sx1272` meets its contract: the spreading factor is at most 12.
 -- Assumes nothing.
 use borrow.Author.Needs.{needs}
 use native.Mathlib.Omega.{arith}
 use Rattle.sheets.specs.declared.Variant.the-variants.{Sx1272}
 use Rattle.page.proofs.Acceptance.{ranges}
-use Rattle.reader.proofs.bytes_left.config_2_sx1272.Statement.{statement}
-use Rattle.reader.proofs.bytes_left.config_2_sx1272.Tie as tie
+use Rattle.programming.proofs.bytes_left.config_2_sx1272.Statement.{statement}
+use Rattle.programming.proofs.bytes_left.config_2_sx1272.Tie as tie
 
 pub config-2-sx1272-spec : {M : Type 1} → statement M
 config-2-sx1272-spec =

@@ -2,10 +2,10 @@
 ghost use mathlib.Core.Path.{_≡_};
 ghost use Prim.Native.Nat.{_<_};
 ghost use lib.Dec.{T};
-ghost use Rattle.sheets.specs.Power.{clamped, paConfig, paDac, ocp};
-ghost use Rattle.page.specs.Page.{written, find};
+ghost use Rattle.page.specs.Page.{written, find, Outside};
 ghost use Rattle.page.specs.Links.{accepted, Accepted};
-ghost use Rattle.page.specs.Lora.{config-1, config-2, config-3, placesOf};
+ghost use Rattle.page.specs.Lora.{config-1, config-2, config-3, places, placesOf};
+ghost use Rattle.programming.specs.Registers.{alike};
 use modem::detection::DETECTION_RESERVED;
 use modem::detection::detection_optimize;
 use modem::detection::detection_threshold;
@@ -18,43 +18,12 @@ use setup::init::TCXO_FOR_OSCILLATOR;
 use setup::init::syncword;
 use setup::ramps::ramp_value;
 use sheets::Variant;
+use tx_power::levels::pa_dac;
+use tx_power::sx1272;
+use tx_power::sx1276;
 use variants::ALL_BUT_SPREADING_FACTOR;
 use variants::sx1276::ALL_BUT_LDRO_AND_AGC_AUTO;
 use variants::sx1276::ALL_BUT_RX_PAYLOAD_CRC_ON;
-
-fn clamped_power(variant: Variant, tx_boost: bool, power: i32) -> i32
-    ensures { λ r. ⌜ r ≡ clamped variant «tx_boost» power ⌝ }
-{
-    match variant {
-        Variant::Sx1272 => tx_power::sx1272::clamped_power(power, tx_boost),
-        Variant::Sx1276 => tx_power::sx1276::clamped_power(power, tx_boost),
-    }
-}
-
-pub fn pa_config(variant: Variant, tx_boost: bool, power: i32) -> u8
-    ensures { λ r. ⌜ r ≡ paConfig variant «tx_boost» power ⌝ }
-{
-    let txp = clamped_power(variant, tx_boost, power);
-    match variant {
-        Variant::Sx1272 => tx_power::sx1272::pa_config(txp, tx_boost),
-        Variant::Sx1276 => tx_power::sx1276::pa_config(txp, tx_boost),
-    }
-}
-
-fn pa_dac(variant: Variant, tx_boost: bool, power: i32) -> u8
-    ensures { λ r. ⌜ r ≡ paDac variant «tx_boost» power ⌝ }
-{
-    let txp = clamped_power(variant, tx_boost, power);
-    tx_power::levels::pa_dac(txp, tx_boost)
-}
-
-// The SX1276 alone.
-fn ocp(tx_boost: bool, power: i32) -> u8
-    ensures { λ r. ⌜ r ≡ ocp «tx_boost» power ⌝ }
-{
-    let txp = clamped_power(Variant::Sx1276, tx_boost, power);
-    tx_power::sx1276::ocp(txp, tx_boost)
-}
 
 fn config_1_sx1272(link: Link) -> u8
     requires { ⌜ T (accepted Variant.Sx1272 link) ⌝ }
@@ -98,6 +67,42 @@ fn config_3(link: Link, old: u8) -> u8
     (ALL_BUT_LDRO_AND_AGC_AUTO & old) | (flag * 8)
 }
 
+// A register that the SX1272 has in its own way, or that it does not write.
+fn left_sx1272(tx_boost: bool, tcxo_used: bool, link: Link, register: u8, old: u8) -> u8
+    requires { ⌜ (register < 128) × T (accepted Variant.Sx1272 link) ⌝ }
+    requires { ⌜ Outside alike register ⌝ }
+    ensures { λ r. ⌜ r ≡ written (find register (places Variant.Sx1272 «tx_boost» «tcxo_used»)) link old ⌝ }
+{
+    match register {
+        0x09 => sx1272::pa_config(link.power, tx_boost),
+        0x0a => ramp_value(Variant::Sx1272, 0),
+        0x1d => config_1_sx1272(link),
+        0x1e => config_2_sx1272(link, old),
+        0x58 => if tcxo_used { TCXO_FOR_OSCILLATOR } else { old },
+        0x5a => pa_dac(Variant::Sx1272, link.power, tx_boost),
+        _ => old,
+    }
+}
+
+// A register that the SX1276 has in its own way, or that it does not write.
+fn left_sx1276(tx_boost: bool, tcxo_used: bool, link: Link, register: u8, old: u8) -> u8
+    requires { ⌜ (register < 128) × T (accepted Variant.Sx1276 link) ⌝ }
+    requires { ⌜ Outside alike register ⌝ }
+    ensures { λ r. ⌜ r ≡ written (find register (places Variant.Sx1276 «tx_boost» «tcxo_used»)) link old ⌝ }
+{
+    match register {
+        0x09 => sx1276::pa_config(link.power, tx_boost),
+        0x0a => ramp_value(Variant::Sx1276, 0),
+        0x0b => sx1276::ocp(link.power, tx_boost),
+        0x1d => config_1_sx1276(link),
+        0x1e => config_2_sx1276(link, old),
+        0x26 => config_3(link, old),
+        0x4b => if tcxo_used { TCXO_FOR_OSCILLATOR } else { old },
+        0x4d => pa_dac(Variant::Sx1276, link.power, tx_boost),
+        _ => old,
+    }
+}
+
 pub fn byte_left(board: Board, link: Link, register: u8, old: u8) -> u8
     requires { ⌜ register < 128 ⌝ }
     requires { ⌜ Accepted board link ⌝ }
@@ -111,49 +116,18 @@ pub fn byte_left(board: Board, link: Link, register: u8, old: u8) -> u8
         0x06 => frequency.steps().frf_msb(),
         0x07 => frequency.steps().frf_mid(),
         0x08 => frequency.steps().frf_lsb(),
-        0x09 => pa_config(variant, tx_boost, link.power),
-        0x0a => ramp_value(variant, 0),
-        0x0b => match variant {
-            Variant::Sx1272 => old,
-            Variant::Sx1276 => ocp(tx_boost, link.power),
-        },
         0x0e => 0,
         0x0f => 0,
-        0x1d => match variant {
-            Variant::Sx1272 => config_1_sx1272(link),
-            Variant::Sx1276 => config_1_sx1276(link),
-        },
-        0x1e => match variant {
-            Variant::Sx1272 => config_2_sx1272(link, old),
-            Variant::Sx1276 => config_2_sx1276(link, old),
-        },
         0x20 => (link.preamble_length / 256) as u8,
         0x21 => (link.preamble_length % 256) as u8,
-        0x26 => match variant {
-            Variant::Sx1272 => old,
-            Variant::Sx1276 => config_3(link, old),
-        },
         0x31 => (DETECTION_RESERVED & old) | detection_optimize(link.spreading_factor),
         0x33 => invert_iq(link.iq_inverted),
         0x37 => detection_threshold(link.spreading_factor),
         0x39 => syncword(link.public_network),
         0x3b => invert_iq2(link.iq_inverted),
-        0x4b => match variant {
-            Variant::Sx1272 => old,
-            Variant::Sx1276 => if tcxo_used { TCXO_FOR_OSCILLATOR } else { old },
+        _ => match variant {
+            Variant::Sx1272 => left_sx1272(tx_boost, tcxo_used, link, register, old),
+            Variant::Sx1276 => left_sx1276(tx_boost, tcxo_used, link, register, old),
         },
-        0x4d => match variant {
-            Variant::Sx1272 => old,
-            Variant::Sx1276 => pa_dac(Variant::Sx1276, tx_boost, link.power),
-        },
-        0x58 => match variant {
-            Variant::Sx1272 => if tcxo_used { TCXO_FOR_OSCILLATOR } else { old },
-            Variant::Sx1276 => old,
-        },
-        0x5a => match variant {
-            Variant::Sx1272 => pa_dac(Variant::Sx1272, tx_boost, link.power),
-            Variant::Sx1276 => old,
-        },
-        _ => old,
     }
 }
