@@ -62,43 +62,24 @@ tail-72 boost tcxo true done = (λ t im I ht h hu here. still h) ▸ tt
 -- in the order of the places: 06 07 08, 09, 0a, (0b,) 0e, 0f, 1d, 1e, (26,) 20, 21, 31, 33, 37, 39, 3b, 4d or 5a
 stays : (v : Variant) (boost tcxo : Bool) → StaysOf v boost tcxo [] (places v boost tcxo)
 stays Sx1276 boost tcxo =
-    (λ t im I ht h hu here. still tt)
-    ▸ stays-07 Sx1276 boost tcxo
-    ▸ stays-08 Sx1276 boost tcxo
-    ▸ (λ t im I ht h hu here. still h)
-    ▸ (λ t im I ht h hu here. still h)
-    ▸ (λ t im I ht h hu here. still h)
-    ▸ (λ t im I ht h hu here. still h)
-    ▸ (λ t im I ht h hu here. still h)
-    ▸ (λ t im I ht h hu here. still h)
+    (λ t im I ht h hu here. still tt) ▸ stays-07 Sx1276 boost tcxo ▸ stays-08 Sx1276 boost tcxo
+    ▸ (λ t im I ht h hu here. still h) ▸ (λ t im I ht h hu here. still h) ▸ (λ t im I ht h hu here. still h)
+    ▸ (λ t im I ht h hu here. still h) ▸ (λ t im I ht h hu here. still h) ▸ (λ t im I ht h hu here. still h)
     ▸ (λ t im I ht h hu here. ((λ k. (k .0, tt)), (λ k. (k .0, h .1))))
-    ▸ (λ t im I ht h hu here. still h)
-    ▸ (λ t im I ht h hu here. still h)
+    ▸ (λ t im I ht h hu here. still h) ▸ (λ t im I ht h hu here. still h)
     ▸ (λ t im I ht h hu here. let b = I .byte 0x21 in let e = h .0 in still (omega arith, h .1))
-    ▸ (λ t im I ht h hu here. still h)
-    ▸ (λ t im I ht h hu here. still h)
-    ▸ (λ t im I ht h hu here. still h)
-    ▸ (λ t im I ht h hu here. still h)
-    ▸ (λ t im I ht h hu here. still h)
-    ▸ (λ t im I ht h hu here. still h)
+    ▸ (λ t im I ht h hu here. still h) ▸ (λ t im I ht h hu here. still h) ▸ (λ t im I ht h hu here. still h)
+    ▸ (λ t im I ht h hu here. still h) ▸ (λ t im I ht h hu here. still h) ▸ (λ t im I ht h hu here. still h)
     ▸ tail-76 boost tcxo tcxo _
 stays Sx1272 boost tcxo =
-    (λ t im I ht h hu here. still tt)
-    ▸ stays-07 Sx1272 boost tcxo
-    ▸ stays-08 Sx1272 boost tcxo
-    ▸ (λ t im I ht h hu here. still h)
-    ▸ (λ t im I ht h hu here. still h)
-    ▸ (λ t im I ht h hu here. still h)
-    ▸ (λ t im I ht h hu here. still h)
-    ▸ (λ t im I ht h hu here. still h)
+    (λ t im I ht h hu here. still tt) ▸ stays-07 Sx1272 boost tcxo ▸ stays-08 Sx1272 boost tcxo
+    ▸ (λ t im I ht h hu here. still h) ▸ (λ t im I ht h hu here. still h) ▸ (λ t im I ht h hu here. still h)
+    ▸ (λ t im I ht h hu here. still h) ▸ (λ t im I ht h hu here. still h)
     ▸ (λ t im I ht h hu here. ((λ k. (k .0, tt)), (λ k. (k .0, h .1))))
     ▸ (λ t im I ht h hu here. still h)
     ▸ (λ t im I ht h hu here. let b = I .byte 0x21 in let e = h .0 in still (omega arith, h .1))
-    ▸ (λ t im I ht h hu here. still h)
-    ▸ (λ t im I ht h hu here. still h)
-    ▸ (λ t im I ht h hu here. still h)
-    ▸ (λ t im I ht h hu here. still h)
-    ▸ (λ t im I ht h hu here. still h)
+    ▸ (λ t im I ht h hu here. still h) ▸ (λ t im I ht h hu here. still h) ▸ (λ t im I ht h hu here. still h)
+    ▸ (λ t im I ht h hu here. still h) ▸ (λ t im I ht h hu here. still h)
     -- RegPaDac tells the power anew, and so RegPaConfig
     ▸ (λ t im I ht h hu here.
     let (iq2, (sync, (threshold, (iq, (detect, (lsb, (msb, (two, (one, (rx, (tx, (ramp, (config, rest))))))))))))) = h in

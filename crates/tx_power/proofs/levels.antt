@@ -1,3 +1,3 @@
 pub mod Whole
 pub mod Clamped
-pub mod Dac
+pub mod Setting

@@ -2,7 +2,7 @@
 ghost use mathlib.Core.Path.{_≡_};
 ghost use lib.IntN.{pos, _+ℤ_};
 ghost use lib.Signed.{_≤ℤ_};
-ghost use Rattle.sheets.specs.Power.{clamped, paDac};
+ghost use Rattle.sheets.specs.Power.{clamped, strong, paDac};
 ghost use Rattle.tx_power.specs.Ranges.{bounded, level};
 use sheets::Variant;
 
@@ -44,16 +44,27 @@ pub fn clamped_power(variant: Variant, p_out: i32, tx_boost: bool) -> i32
     }
 }
 
-// RegPaDac, which is the same on both variants.
-pub fn pa_dac(variant: Variant, p_out: i32, tx_boost: bool) -> u8
-    ensures { λ r. ⌜ r ≡ paDac variant «tx_boost» «p_out» ⌝ }
+// Above 17 dBm, which PA_BOOST alone has, the amplifier wants its +20 dBm setting.
+pub fn strong(variant: Variant, p_out: i32, tx_boost: bool) -> bool
+    ensures { λ r. ⌜ r ≡ strong «tx_boost» (clamped variant «tx_boost» «p_out») ⌝ }
 {
     let txp = clamped_power(variant, p_out, tx_boost);
     if tx_boost {
         match txp {
-            18..=20 => PA_DAC_20DBM_ON,
-            _ => PA_DAC_20DBM_OFF,
+            18..=20 => true,
+            _ => false,
         }
+    } else {
+        false
+    }
+}
+
+// RegPaDac, which is the same on both variants.
+pub fn pa_dac(variant: Variant, p_out: i32, tx_boost: bool) -> u8
+    ensures { λ r. ⌜ r ≡ paDac variant «tx_boost» «p_out» ⌝ }
+{
+    if strong(variant, p_out, tx_boost) {
+        PA_DAC_20DBM_ON
     } else {
         PA_DAC_20DBM_OFF
     }

@@ -4,6 +4,7 @@ ghost use Rattle.sheets.specs.Power.{ocp, paConfig};
 use crate::PA_BOOST;
 use crate::levels::clamped_power;
 use crate::levels::level;
+use crate::levels::strong;
 use sheets::Variant;
 
 // With over current protection on.
@@ -16,12 +17,8 @@ const MAX_POWER7_NO_PA_BOOST: u8 = 0x70;
 pub fn ocp(p_out: i32, tx_boost: bool) -> u8
     ensures { λ r. ⌜ r ≡ ocp «tx_boost» «p_out» ⌝ }
 {
-    let txp = clamped_power(Variant::Sx1276, p_out, tx_boost);
-    if tx_boost {
-        match txp {
-            18..=20 => OCP_TRIM_240MA,
-            _ => OCP_TRIM_100MA,
-        }
+    if strong(Variant::Sx1276, p_out, tx_boost) {
+        OCP_TRIM_240MA
     } else {
         OCP_TRIM_100MA
     }
