@@ -52,7 +52,7 @@ abbrev pub same : Bool → Bool → Bool
 same true b = b
 same false b = not b
 
-same→eq : (a b : Bool) → T (same a b) → a ≡ b
+pub same→eq : (a b : Bool) → T (same a b) → a ≡ b
 same→eq true true t = refl
 same→eq true false t = absurd t
 same→eq false true t = absurd t
