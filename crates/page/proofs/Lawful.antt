@@ -142,7 +142,7 @@ by-ranges v boost tcxo done (p ∷ ps) (step, l) = (
   by-ranges v boost tcxo (p ∷ done) ps l,
 )
 
-pub tuned-ok : (v : Variant) (n : ℕ) (t : Link) → Ranges v t → n < 16777216 → Ranges v (L.tuned n t)
+tuned-ok : (v : Variant) (n : ℕ) (t : Link) → Ranges v t → n < 16777216 → Ranges v (L.tuned n t)
 tuned-ok Sx1272 n t h l = omega (arith, lowest-lt n l)
 tuned-ok Sx1276 n t h l = omega (arith, lowest-lt n l)
 

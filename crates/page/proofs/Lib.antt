@@ -10,4 +10,3 @@ pub mod Sequence
 pub mod Stays
 pub mod Left
 pub mod Registers
-pub mod Learnt

@@ -72,10 +72,6 @@ module _ (P : Page) (L : Lawful P) where
       fits-iff (first P m) (first-lawful P L m) im .1
       (s, hs, subst (λ (ps : List (Place (P .Setting))). Holds ps s im) (take-take m n (P .places) h) (holds-take m s (take n (P .places)) im k))
 
-  -- values that fit are those of an accepted guess
-  pub fit-accepted : (n : ℕ) (im : List ℕ) → T (fits (first P n) im) → Accepted P (guess (first P n) im)
-  fit-accepted n im t = fits-guess (first P n) (first-lawful P L n) im .0 t .0
-
   -- all the places are the page
   entire : (ps : List (Place (P .Setting))) → ps ≡ P .places → (f : Page → Bool) → f (record { Setting = P .Setting; accepted = P .accepted; places = ps; blank = P .blank }) ≡ f P
   entire ps e f = ap (λ (qs : List (Place (P .Setting))). f (record { Setting = P .Setting; accepted = P .accepted; places = qs; blank = P .blank })) e

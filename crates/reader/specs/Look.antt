@@ -1,15 +1,14 @@
 -- How far the reader looks: up to the first register with which the values so far fit no accepted link.
 use mathlib.Core.Path.{_≡_}
-use mathlib.Core.Bool.{true, false}
+use mathlib.Core.Bool.{true}
 use mathlib.Core.List.{List}
 use Prim.Native.Nat.{ℕ, _-_, _≤_, _<_}
 use lib.Dec.{T}
 use lib.ListN.{getD}
 use Rattle.sheets.specs.Reader.{readerOrder}
 use Rattle.params.specs.declared.board.Board.{Board}
-use Rattle.page.specs.Page.{guess as guessed, first, fits}
+use Rattle.page.specs.Page.{first, fits}
 use Rattle.page.specs.Lora.{page}
-use Rattle.reader.specs.declared.Seen.{Seen}
 use Rattle.reader.specs.Tests.{registers}
 
 -- the first n values of the image are those of an accepted link
@@ -27,10 +26,3 @@ pub record LastExamined (b : Board) (im : List ℕ) (r : ℕ) : Type 0 where
   pub count : ℕ
   pub examined : Examined b im count
   pub register : r ≡ getD (readerOrder (b .variant) true) (count - 1) 0
-
--- a look tells as much, with the guess from these values and whether they fit
-pub record Looked (b : Board) (im : List ℕ) (k : Seen) : Type 0 where
-  pub count : Examined b im (k .examined)
-  pub guess : k .guess ≡ guessed (first (page b) (k .examined)) im
-  pub fit : k .fits ≡ true → Fit b im (k .examined)
-  pub unfit : k .fits ≡ false → Fit b im (k .examined) → ⊥

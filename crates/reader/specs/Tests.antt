@@ -8,8 +8,8 @@ use Rattle.sheets.specs.Registers.{RegModemConfig1, RegModemConfig2}
 use Rattle.sheets.specs.Reader.{readerOrder}
 use Rattle.params.specs.declared.mod_params.Link.{Link}
 use Rattle.params.specs.declared.board.Board.{Board}
-use Rattle.page.specs.Page.{pick, written, find, Outside}
-use Rattle.page.specs.Links.{accepted, Accepted}
+use Rattle.page.specs.Page.{Place, pick, written, find, improved}
+use Rattle.page.specs.Links.{accepted}
 use Rattle.page.specs.Lora.{placesOf}
 
 -- how many registers of the order a board has
@@ -27,6 +27,7 @@ keepsAgain b l a im = pick (eqb a RegModemConfig2) (keeps b l RegModemConfig1 im
 abbrev pub fitsAt : Board → Link → ℕ → List ℕ → Bool
 fitsAt b l a im = accepted (b .variant) l && keepsAgain b l a im
 
--- acceptance is in question at the modem's first two registers alone
-abbrev pub Assured : Board → Link → ℕ → Type 0
-Assured b l a = Outside (RegModemConfig2 ∷ RegModemConfig1 ∷ []) a → Accepted b l
+-- what these registers tell, one after the other
+abbrev pub learnt : List (Place Link) → List ℕ → List ℕ → Link → Link
+learnt ps im [] t = t
+learnt ps im (a ∷ more) t = learnt ps im more (improved (find a ps) (getD im a 0) t)

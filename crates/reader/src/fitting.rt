@@ -2,8 +2,8 @@
 ghost use mathlib.Core.Path.{_≡_};
 ghost use Prim.Native.Nat.{_<_};
 ghost use lib.ListN.{length};
-ghost use Rattle.page.specs.Links.{accepted, Accepted};
-ghost use Rattle.reader.specs.Tests.{registers, keeps, keepsAgain, fitsAt, Assured};
+ghost use Rattle.page.specs.Links.{Accepted};
+ghost use Rattle.reader.specs.Tests.{registers, keeps, keepsAgain, fitsAt};
 use params::board::Board;
 use params::mod_params::Link;
 use programming::acceptance::accepts;
@@ -23,7 +23,7 @@ pub fn registers(board: Board) -> usize
 }
 
 // Whether an accepted link leaves a register as it is.
-fn keeps(image: &[u8], board: Board, link: Link, register: u8) -> bool
+pub fn keeps(image: &[u8], board: Board, link: Link, register: u8) -> bool
     requires { ⌜ (length (now image) ≡ 128) × (register < 128) ⌝ }
     requires { ⌜ Accepted board link ⌝ }
     ensures { λ r. ⌜ r ≡ keeps board link register (now (image .entry)) ⌝ }
@@ -48,26 +48,13 @@ fn keeps_again(image: &[u8], board: Board, link: Link, register: u8) -> bool
     keeps(image, board, link, register)
 }
 
-// Any register but the modem's first two leaves a guess accepted that was.
-fn still_accepted(board: Board, guess: Link, register: u8) -> bool
-    requires { ⌜ Assured board guess register ⌝ }
-    ensures { λ r. ⌜ r ≡ accepted (board .variant) guess ⌝ }
-{
-    let variant = board.variant;
-    match register {
-        0x1d => accepts(variant, guess),
-        0x1e => accepts(variant, guess),
-        _ => true,
-    }
-}
-
 // Whether a guess fits a register: it is accepted, and leaves the register as it is.
 pub fn fits(image: &[u8], board: Board, guess: Link, register: u8) -> bool
     requires { ⌜ (length (now image) ≡ 128) × (register < 128) ⌝ }
-    requires { ⌜ Assured board guess register ⌝ }
     ensures { λ r. ⌜ r ≡ fitsAt board guess register (now (image .entry)) ⌝ }
 {
-    if !still_accepted(board, guess, register) {
+    let variant = board.variant;
+    if !accepts(variant, guess) {
         return false;
     }
     keeps_again(image, board, guess, register)

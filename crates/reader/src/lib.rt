@@ -1,54 +1,33 @@
-// The link reader: the link that an image holds, found register by register in the reader's order.
+// The link reader: the link that an image holds, and the register that rules out that it holds one.
 ghost use mathlib.Core.Path.{_≡_};
 ghost use Prim.Native.Nat.{_<_};
 ghost use lib.ListN.{length};
 ghost use Rattle.params.specs.Answers.{tellsLink};
 ghost use Rattle.page.specs.Page.{read};
-ghost use Rattle.page.specs.Lora.{blank, page};
+ghost use Rattle.page.specs.Lora.{page};
 ghost use Rattle.page.specs.Reading.{tellsReading, readLink};
-ghost use Rattle.reader.specs.Look.{Examined, LastExamined, Looked};
+ghost use Rattle.reader.specs.Look.{Examined, LastExamined};
 use crate::fitting::fits;
+use crate::registers::blank;
 use crate::registers::learn;
+use crate::whole::guess;
+use crate::whole::holds;
 use params::answers::LinkAnswer;
 use params::board::Board;
 use params::mod_params::Link;
 use params::mod_params::RadioError;
-use params::units::Hertz;
+use programming::acceptance::accepts;
 
 pub mod fitting;
 pub mod power_shown;
 pub mod registers;
+pub mod whole;
 
-// The guess from the registers looked at so far, how many they are, and whether it fits them.
-struct Seen {
-    guess: Link,
-    examined: usize,
-    fits: bool,
-}
-
-// The first guess, before any register is looked at.
-fn blank() -> Link
-    ensures { λ r. ⌜ r ≡ blank ⌝ }
-{
-    let frequency = Hertz(0);
-    Link {
-        public_network: 0,
-        spreading_factor: 7,
-        bandwidth: 7,
-        coding_rate: 1,
-        frequency,
-        preamble_length: 0,
-        implicit_header: 0,
-        crc_on: 0,
-        iq_inverted: 0,
-        power: 0,
-    }
-}
-
-// Looks at one register after the other for as long as the guess fits them.
-fn look(image: &[u8], board: Board) -> Seen
+// How many registers have to be looked at, one after the other, for as long as a guess fits them: on an image that is no link,
+// the last of them is the one that rules it out.
+pub fn examined(image: &[u8], board: Board) -> usize
     requires { ⌜ length (now image) ≡ 128 ⌝ }
-    ensures { λ r. ⌜ Looked board (now (image .entry)) r ⌝ }
+    ensures { λ r. ⌜ Examined board (now (image .entry)) r ⌝ }
 {
     let variant = board.variant;
     let count = fitting::registers(board);
@@ -59,40 +38,10 @@ fn look(image: &[u8], board: Board) -> Seen
         guess = learn(guess, board, register, image[register as usize]);
         i += 1;
         if !fits(image, board, guess, register) {
-            return Seen {
-                guess,
-                examined: i,
-                fits: false,
-            };
+            return i;
         }
     }
-    Seen {
-        guess,
-        examined: i,
-        fits: true,
-    }
-}
-
-fn read_registers(image: &[u8], board: Board) -> LinkAnswer
-    requires { ⌜ length (now image) ≡ 128 ⌝ }
-    ensures { λ r. ⌜ tellsLink r ≡ tellsReading (read (page board) (now (image .entry))) ⌝ }
-{
-    let seen = look(image, board);
-    let guess = seen.guess;
-    if seen.fits {
-        LinkAnswer::Found(guess)
-    } else {
-        LinkAnswer::Refused(RadioError::NotALink)
-    }
-}
-
-// How many registers the reader looks at: on an image that is no link, the last of them is the one that rules it out.
-pub fn examined(image: &[u8], board: Board) -> usize
-    requires { ⌜ length (now image) ≡ 128 ⌝ }
-    ensures { λ r. ⌜ Examined board (now (image .entry)) r ⌝ }
-{
-    let seen = look(image, board);
-    seen.examined
+    i
 }
 
 // The last register that the reader looks at: on an image that is no link, the one that rules it out.
@@ -104,6 +53,23 @@ pub fn last_examined(image: &[u8], board: Board) -> u8
     let variant = board.variant;
     let n = examined(image, board);
     variant.reader_order(n - 1)
+}
+
+// The guess from all registers is the link, if it is accepted and they hold it.
+fn read_registers(image: &[u8], board: Board) -> LinkAnswer
+    requires { ⌜ length (now image) ≡ 128 ⌝ }
+    ensures { λ r. ⌜ tellsLink r ≡ tellsReading (read (page board) (now (image .entry))) ⌝ }
+{
+    let variant = board.variant;
+    let link = guess(image, board);
+    if !accepts(variant, link) {
+        return LinkAnswer::Refused(RadioError::NotALink);
+    }
+    if holds(image, board, link) {
+        LinkAnswer::Found(link)
+    } else {
+        LinkAnswer::Refused(RadioError::NotALink)
+    }
 }
 
 pub fn read_link(image: &[u8], board: Board) -> LinkAnswer

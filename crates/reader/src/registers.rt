@@ -2,16 +2,36 @@
 ghost use mathlib.Core.Path.{_≡_};
 ghost use Prim.Native.Nat.{_<_, _^_};
 ghost use Rattle.page.specs.Page.{improved, find};
-ghost use Rattle.page.specs.Lora.{tuned, powered, announced, shaped, frf-msb, frf-mid, frf-lsb, pa-config, pa-dac, config-1, config-2, invert-iq, sync-word, placesOf};
+ghost use Rattle.page.specs.Lora.{blank, tuned, powered, announced, shaped, frf-msb, frf-mid, frf-lsb, pa-config, pa-dac, config-1, config-2, invert-iq, sync-word, placesOf};
 use crate::power_shown::power_shown;
 use crate::power_shown::power_shown_with;
 use modem::inversion::INVERT_IQ_RX;
 use params::board::Board;
 use params::mod_params::Link;
+use params::units::Hertz;
 use params::units::Steps;
 use setup::init::LORA_MAC_PUBLIC_SYNCWORD;
 use sheets::Variant;
 use tx_power::sx1272;
+
+// The first guess, before any register is looked at.
+pub fn blank() -> Link
+    ensures { λ r. ⌜ r ≡ blank ⌝ }
+{
+    let frequency = Hertz(0);
+    Link {
+        public_network: 0,
+        spreading_factor: 7,
+        bandwidth: 7,
+        coding_rate: 1,
+        frequency,
+        preamble_length: 0,
+        implicit_header: 0,
+        crc_on: 0,
+        iq_inverted: 0,
+        power: 0,
+    }
+}
 
 // At 125 kHz every frequency is accepted.
 fn tuned(guess: Link, count: Steps) -> Link

@@ -1,4 +1,4 @@
--- `reader::look` meets its contract: the guess is that of the registers so far, and these fit.
+-- `reader::examined` meets its contract: the registers before the last fit, and with it they do not, or they are all.
 -- Assumes nothing.
 use borrow.Author.Needs.{needs}
 use mathlib.Core.Path.{_≡_, sym, subst, _∙_}
@@ -13,16 +13,11 @@ use lib.Dec.{T}
 use denote.Ref.{now}
 use Rattle.page.specs.Page.{Image, guess as guessed, first, fits}
 use Rattle.page.specs.Lora.{page}
-use Rattle.page.specs.Links.{Accepted}
-use Rattle.page.proofs.Prefix.{fit-accepted}
-use Rattle.page.proofs.Lawful.{lawful}
-use Rattle.page.proofs.Learnt.{still-accepted}
 use Rattle.reader.specs.Look.{Fit}
-use Rattle.reader.specs.Tests.{Assured}
 use Rattle.reader.proofs.fitting.Order.{order-lt, order-le}
 use Rattle.reader.proofs.SoFar.{so-far, next-guess, begins}
-use Rattle.reader.proofs.look.Statement.{statement}
-use Rattle.reader.proofs.look.Tie as tie
+use Rattle.reader.proofs.examined.Statement.{statement}
+use Rattle.reader.proofs.examined.Tie as tie
 
 abbrev Inv-loop : tie.InvT-loop
 Inv-loop image board variant n guess₀ i₀ guess i = (i ≤ n) × (guess ≡ guessed (first (page board) i) image) × ((k : ℕ) → k < i + 1 → Fit board image k)
@@ -60,18 +55,6 @@ improved-guess c =
     let next = next-guess (a .board) (l .loop .i) (omega (arith, r .registers .ensures)) (now (a .image)) (l .loop .guess) (l .loop .inv .1) in
     rw (add-one (l .loop .i)) ((rw (o .reader-order .ensures) at (c .learn .ensures)) ∙ next)
 
--- the guess before was accepted, so that acceptance is in question at two registers alone
-assured : (c : tie.After-learn Inv-loop μ-loop) → let o = c .before .before in let r = o .before .before .before .before in Assured (r .before .before .args .board) (c .learn .result) (o .reader-order .result)
-assured c outside =
-    let o = c .before .before in
-    let l = o .before .before in
-    let r = l .before .before in
-    let a = r .before .before .args in
-    let b = a .board in
-    let i = l .loop .i in
-    let before : Accepted b (l .loop .guess) = rw (l .loop .inv .1) (fit-accepted (page b) (lawful b) i (now (a .image)) (l .loop .inv .2 i (omega arith))) in
-    rw (c .learn .ensures) (still-accepted b (o .reader-order .result) _ (l .loop .guess) outside (image-is (r .before) .byte (o .reader-order .result)) before)
-
 -- the test at the register tells whether the values with its own fit
 told : (c : tie.After-fits2 Inv-loop μ-loop) → let l = c .before .before .before .before .before in let a = l .before .before .before .before .args in
     T (c .fits2 .result) ↔ Fit (a .board) (now (a .image)) (l .loop .i + 1)
@@ -94,12 +77,7 @@ returns c =
     let a = r .before .before .args in
     let i = l .loop .i in
     let unfit : Fit (a .board) (now (a .image)) (i + 1) → ⊥ = λ f. subst T (not-true (c .before .fits2 .result) (c .if1 .taken)) (told (c .before) .1 f) in
-    record {
-      count = record { within = omega (arith, r .registers .ensures); before = λ n h. l .loop .inv .2 n (omega arith); last = λ f. absurd (unfit f) };
-      guess = improved-guess g;
-      fit = λ e. absurd (true≢false (sym e));
-      unfit = λ e. unfit;
-    }
+    record { within = omega (arith, r .registers .ensures); before = λ n h. l .loop .inv .2 n (omega arith); last = λ f. absurd (unfit f) }
 
 loop-again : tie.Need-loop-again Inv-loop μ-loop
 loop-again c =
@@ -112,16 +90,10 @@ returns-2 : tie.Need-returns-2 Inv-loop μ-loop
 returns-2 c =
     let l = c .before in
     let r = l .before .before in
-    let i = l .loop .i in
-    record {
-      count = record { within = omega (arith, r .registers .ensures); before = λ n h. l .loop .inv .2 n (omega arith); last = λ f. omega (arith, r .registers .ensures) };
-      guess = l .loop .inv .1;
-      fit = λ e. l .loop .inv .2 i (omega arith);
-      unfit = λ e. absurd (true≢false e);
-    }
+    record { within = omega (arith, r .registers .ensures); before = λ n h. l .loop .inv .2 n (omega arith); last = λ f. omega (arith, r .registers .ensures) }
 
-pub look-spec : {M : Type 1} → statement M
-look-spec =
+pub examined-spec : {M : Type 1} → statement M
+examined-spec =
     tie.close
     (tie.spec
     Inv-loop
@@ -134,7 +106,7 @@ look-spec =
     (λ c. omega (arith, register-lt (c .before)))
     (λ c κs. search needs)
     (λ c. search needs)
-    (λ c κs. ((search needs, register-lt (c .before .before)), assured c))
+    (λ c κs. (search needs, register-lt (c .before .before)))
     returns
     (λ c. search needs)
     loop-again
