@@ -93,7 +93,7 @@ module _ (b : Board) where
       abbrev register : ℕ
       register = getD (readerOrder (b .variant) true) i 0
 
-      pub kept-here : T (keeps b l register im) ↔ (written here l (getD im (here .addr) 0) ≡ getD im (here .addr) 0)
+      kept-here : T (keeps b l register im) ↔ (written here l (getD im (here .addr) 0) ≡ getD im (here .addr) 0)
       unfolding keeps
       kept-here = rw (order-at, found-here) (equals (written here l (getD im (here .addr) 0)) (getD im (here .addr) 0))
 

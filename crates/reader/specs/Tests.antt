@@ -20,6 +20,9 @@ registers b = length (readerOrder (b .variant) (b .«tcxo_used»))
 unfoldable pub keeps : Board → Link → ℕ → List ℕ → Bool
 keeps b l a im = eqb (written (find a (placesOf b)) l (getD im a 0)) (getD im a 0)
 
+abbrev pub keepsFour : Board → Link → (a b c d : ℕ) → List ℕ → Bool
+keepsFour board l a b c d im = keeps board l a im && (keeps board l b im && (keeps board l c im && keeps board l d im))
+
 -- and, where that is RegModemConfig2, RegModemConfig1 too
 abbrev pub keepsAgain : Board → Link → ℕ → List ℕ → Bool
 keepsAgain b l a im = pick (eqb a RegModemConfig2) (keeps b l RegModemConfig1 im) true && keeps b l a im

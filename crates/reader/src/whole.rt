@@ -1,13 +1,13 @@
 // All registers at once: the guess from them, and whether they hold it.
 ghost use mathlib.Core.Path.{_≡_};
 ghost use mathlib.Core.List.{[], _∷_};
+ghost use Prim.Native.Nat.{_<_};
 ghost use lib.ListN.{length};
 ghost use Rattle.page.specs.Page.{guess, holds};
 ghost use Rattle.page.specs.Links.{Accepted};
 ghost use Rattle.page.specs.Lora.{blank, page, placesOf};
-ghost use Rattle.reader.specs.Tests.{learnt};
+ghost use Rattle.reader.specs.Tests.{keepsFour, learnt};
 use crate::fitting::keeps;
-use crate::fitting::registers;
 use crate::registers::blank;
 use crate::registers::learn;
 use params::board::Board;
@@ -47,20 +47,48 @@ pub fn guess(image: &[u8], board: Board) -> Link
     learn(guess, board, 0x5a, image[0x5a])
 }
 
-// Whether an accepted link leaves each register of the order as it is.
+// Whether an accepted link leaves four registers as they are.
+fn keeps_four(image: &[u8], board: Board, link: Link, a: u8, b: u8, c: u8, d: u8) -> bool
+    requires { ⌜ (length (now image) ≡ 128) × Accepted board link ⌝ }
+    requires { ⌜ (a < 128) × ((b < 128) × ((c < 128) × (d < 128))) ⌝ }
+    ensures { λ r. ⌜ r ≡ keepsFour board link a b c d (now (image .entry)) ⌝ }
+{
+    if !keeps(image, board, link, a) {
+        return false;
+    }
+    if !keeps(image, board, link, b) {
+        return false;
+    }
+    if !keeps(image, board, link, c) {
+        return false;
+    }
+    keeps(image, board, link, d)
+}
+
+// Whether an accepted link leaves the registers of either variant's order as they are; one that a board does not write it keeps.
+// Each is named, so that the compiler has no choice left to make when it runs.
 pub fn holds(image: &[u8], board: Board, link: Link) -> bool
     requires { ⌜ length (now image) ≡ 128 ⌝ }
     requires { ⌜ Accepted board link ⌝ }
     ensures { λ r. ⌜ r ≡ holds (placesOf board) link (now (image .entry)) ⌝ }
 {
-    let variant = board.variant;
-    let count = registers(board);
-    let mut i = 0;
-    while i < count {
-        if !keeps(image, board, link, variant.reader_order(i)) {
-            return false;
-        }
-        i += 1;
+    if !keeps_four(image, board, link, 0x06, 0x07, 0x08, 0x09) {
+        return false;
     }
-    true
+    if !keeps_four(image, board, link, 0x0a, 0x0b, 0x0e, 0x0f) {
+        return false;
+    }
+    if !keeps_four(image, board, link, 0x1d, 0x1e, 0x20, 0x21) {
+        return false;
+    }
+    if !keeps_four(image, board, link, 0x26, 0x31, 0x33, 0x37) {
+        return false;
+    }
+    if !keeps_four(image, board, link, 0x39, 0x3b, 0x4b, 0x4d) {
+        return false;
+    }
+    if !keeps(image, board, link, 0x58) {
+        return false;
+    }
+    keeps(image, board, link, 0x5a)
 }

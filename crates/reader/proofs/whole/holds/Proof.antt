@@ -1,98 +1,109 @@
--- `reader::whole::holds` meets its contract: the registers so far are kept.
+-- `reader::whole::holds` meets its contract: a link is held where no register is found that it does not keep.
 -- Assumes nothing.
 use borrow.Author.Needs.{needs}
-use mathlib.Core.Path.{_≡_, refl, subst}
+use mathlib.Core.Path.{_≡_, sym, subst}
 use mathlib.Core.Bool.{Bool, true, false}
-use Prim.Native.Nat.{ℕ, _-_, _≤_, _<_}
-use native.Mathlib.Omega.{arith}
-use borrow.Author.Count.{below-more}
 use borrow.Author.Tests.{not-true, not-false}
 use lib.Dec.{T}
-use lib.ListN.{getD}
 use denote.Ref.{now}
-use Rattle.sheets.specs.Reader.{readerOrder}
-use Rattle.page.specs.Page.{holds}
+use Rattle.page.specs.Page.{Image, holds}
 use Rattle.page.specs.Lora.{placesOf}
-use Rattle.reader.specs.Tests.{registers, keeps}
-use Rattle.reader.proofs.fitting.Order.{order-lt, order-le}
-use Rattle.reader.proofs.whole.Each.{holds-each, holds-all}
+use Rattle.page.proofs.Acceptance.{_▸_}
+use Rattle.reader.proofs.whole.Each.{same-test, holds-all, holds-any, apart, unheld}
 use Rattle.reader.proofs.whole.holds.Statement.{statement}
 use Rattle.reader.proofs.whole.holds.Tie as tie
 
-abbrev Inv-loop : tie.InvT-loop
-Inv-loop image board link variant count i₀ i = (i ≤ count) × ((k : ℕ) → k < i → T (keeps board link (getD (readerOrder (board .variant) true) k 0) image))
+image-is : (c : tie.After-shared-slice-known) → Image (now (c .before .args .image))
+image-is c = record { size = c .before .pre .0; byte = λ a. c .shared-slice-known .given a .fits }
 
-abbrev μ-loop : tie.MeasureT-loop
-μ-loop image board link variant count i₀ i = count - i
+-- a test that was passed
+passed : {r t : Bool} → r ≡ t → r ≡ true → T t
+passed is e = subst T is (subst T (sym e) tt)
 
-is-true : (t : Bool) → T t → true ≡ t
-is-true true h = refl
-is-true false h = absurd h
-
-is-false : (t : Bool) → ¬ T t → false ≡ t
-is-false true h = absurd (h tt)
-is-false false h = refl
-
-reader-order-requires : tie.Need-reader-order-requires Inv-loop μ-loop
-reader-order-requires c κs =
-    let r = c .before .before in
-    let b = r .before .before .args .board in
-    omega (arith, r .registers .ensures, order-le (b .variant) (b .«tcxo_used»))
-
--- the register is in the image
-register-lt : (c : tie.After-reader-order Inv-loop μ-loop) → c .reader-order .result < 128
-register-lt c =
-    let r = c .before .before .before in
-    let b = r .before .before .args .board in
-    rw (c .reader-order .ensures) (order-lt (b .variant) (c .before .before .loop .i) (omega (arith, r .registers .ensures, order-le (b .variant) (b .«tcxo_used»))))
-
-keeps-requires : tie.Need-keeps-requires Inv-loop μ-loop
-keeps-requires c κs =
-    let s = c .before .before .before .before .before in
-    ((s .pre .0, register-lt c), s .pre .1)
-
--- what is told of the register is whether it is kept
-told : (c : tie.After-keeps Inv-loop μ-loop) → let o = c .before in let l = o .before .before in let a = l .before .before .before .args in
-    c .keeps .result ≡ keeps (a .board) (a .link) (getD (readerOrder (a .board .variant) true) (l .loop .i) 0) (now (a .image))
-told c = rw (← c .before .reader-order .ensures) (c .keeps .ensures)
-
-returns : tie.Need-returns Inv-loop μ-loop
+returns : tie.Need-returns
 returns c =
     let k = c .before in
-    let l = k .before .before .before in
-    let r = l .before in
-    let a = r .before .before .args in
-    let im = now (a .image) in
-    let within : l .loop .i < registers (a .board) = omega (arith, r .registers .ensures) in
-    is-false (holds (placesOf (a .board)) (a .link) im) (λ t. subst T (not-true (k .keeps .result) (c .if1 .taken)) (rw (told k) (holds-each (a .board) (a .link) im t (l .loop .i) within)))
+    let s = k .before in
+    let a = s .before .args in
+    unheld (a .board) (a .link) (now (a .image)) 0x06 0x07 0x08 0x09 (image-is s) (k .keeps-four .ensures) (not-true (k .keeps-four .result) (c .if1 .taken))
 
-loop-again : tie.Need-loop-again Inv-loop μ-loop
-loop-again c =
-    let k = c .before in
-    let l = k .before .before .before in
-    let a = l .before .before .before .args in
-    let here : T (keeps (a .board) (a .link) (getD (readerOrder (a .board .variant) true) (l .loop .i) 0) (now (a .image))) = rw (← told k, not-false (k .keeps .result) (c .if1 .left)) tt in
-    (omega arith, below-more _ _ (l .loop .inv .1) here)
-
-returns-2 : tie.Need-returns-2 Inv-loop μ-loop
+returns-2 : tie.Need-returns-2
 returns-2 c =
-    let l = c .before in
-    let r = l .before in
-    let a = r .before .before .args in
-    is-true (holds (placesOf (a .board)) (a .link) (now (a .image))) (holds-all (a .board) (a .link) (now (a .image)) (λ k h. l .loop .inv .1 k (omega (arith, r .registers .ensures))))
+    let k = c .before in
+    let s = k .before .before .before in
+    let a = s .before .args in
+    unheld (a .board) (a .link) (now (a .image)) 0x0a 0x0b 0x0e 0x0f (image-is s) (k .keeps-four2 .ensures) (not-true (k .keeps-four2 .result) (c .if2 .taken))
+
+returns-3 : tie.Need-returns-3
+returns-3 c =
+    let k = c .before in
+    let s = k .before .before .before .before .before in
+    let a = s .before .args in
+    unheld (a .board) (a .link) (now (a .image)) 0x1d 0x1e 0x20 0x21 (image-is s) (k .keeps-four3 .ensures) (not-true (k .keeps-four3 .result) (c .if3 .taken))
+
+returns-4 : tie.Need-returns-4
+returns-4 c =
+    let k = c .before in
+    let s = k .before .before .before .before .before .before .before in
+    let a = s .before .args in
+    unheld (a .board) (a .link) (now (a .image)) 0x26 0x31 0x33 0x37 (image-is s) (k .keeps-four4 .ensures) (not-true (k .keeps-four4 .result) (c .if4 .taken))
+
+returns-5 : tie.Need-returns-5
+returns-5 c =
+    let k = c .before in
+    let s = k .before .before .before .before .before .before .before .before .before in
+    let a = s .before .args in
+    unheld (a .board) (a .link) (now (a .image)) 0x39 0x3b 0x4b 0x4d (image-is s) (k .keeps-four5 .ensures) (not-true (k .keeps-four5 .result) (c .if5 .taken))
+
+returns-6 : tie.Need-returns-6
+returns-6 c =
+    let k = c .before in
+    let s = k .before .before .before .before .before .before .before .before .before .before .before in
+    let a = s .before .args in
+    same-test false (holds (placesOf (a .board)) (a .link) (now (a .image))) (λ x. absurd x)
+    (λ t. subst T (not-true (k .keeps .result) (c .if6 .taken)) (subst T (sym (k .keeps .ensures)) (holds-any (a .board) (a .link) (now (a .image)) (image-is s) t 0x58)))
+
+returns-7 : tie.Need-returns-7
+returns-7 c =
+    let sixth = c .before .before in
+    let fifth = sixth .before .before in
+    let fourth = fifth .before .before in
+    let third = fourth .before .before in
+    let second = third .before .before in
+    let first = second .before .before in
+    let s = first .before in
+    let a = s .before .args in
+    let b = a .board in
+    let l = a .link in
+    let im = now (a .image) in
+    let (k06, k07, k08, k09) = apart b l im 0x06 0x07 0x08 0x09 (passed (first .keeps-four .ensures) (not-false (first .keeps-four .result) (second .before .if1 .left))) in
+    let (k0a, k0b, k0e, k0f) = apart b l im 0x0a 0x0b 0x0e 0x0f (passed (second .keeps-four2 .ensures) (not-false (second .keeps-four2 .result) (third .before .if2 .left))) in
+    let (k1d, k1e, k20, k21) = apart b l im 0x1d 0x1e 0x20 0x21 (passed (third .keeps-four3 .ensures) (not-false (third .keeps-four3 .result) (fourth .before .if3 .left))) in
+    let (k26, k31, k33, k37) = apart b l im 0x26 0x31 0x33 0x37 (passed (fourth .keeps-four4 .ensures) (not-false (fourth .keeps-four4 .result) (fifth .before .if4 .left))) in
+    let (k39, k3b, k4b, k4d) = apart b l im 0x39 0x3b 0x4b 0x4d (passed (fifth .keeps-four5 .ensures) (not-false (fifth .keeps-four5 .result) (sixth .before .if5 .left))) in
+    let k58 = passed (sixth .keeps .ensures) (not-false (sixth .keeps .result) (c .before .if6 .left)) in
+    same-test (c .keeps2 .result) (holds (placesOf b) l im)
+    (λ t.
+    holds-all b l im
+    (k06 ▸ k07 ▸ k08 ▸ k09 ▸ k0a ▸ k0b ▸ k0e ▸ k0f ▸ k1d ▸ k1e ▸ k20 ▸ k21 ▸ k26 ▸ k31 ▸ k33 ▸ k37 ▸ k39 ▸ k3b ▸ k4b ▸ k4d ▸ k58
+    ▸ subst T (c .keeps2 .ensures) t ▸ tt))
+    (λ t. subst T (sym (c .keeps2 .ensures)) (holds-any b l im (image-is s) t 0x5a))
 
 pub holds-spec : {M : Type 1} → statement M
 holds-spec =
     tie.close
     (tie.spec
-    Inv-loop
-    μ-loop
     (λ c κs. search needs)
-    (λ c. (omega arith, λ k h. absurd (omega arith)))
-    reader-order-requires
-    keeps-requires
     returns
-    (λ c. search needs)
-    (λ c. search needs)
-    loop-again
-    returns-2)
+    (λ c κs. search needs)
+    returns-2
+    (λ c κs. search needs)
+    returns-3
+    (λ c κs. search needs)
+    returns-4
+    (λ c κs. search needs)
+    returns-5
+    (λ c κs. search needs)
+    returns-6
+    (λ c κs. search needs)
+    returns-7)
