@@ -19,7 +19,8 @@ use Rattle.bus.specs.Call.{formed, admitted, settled, well}
 use Rattle.operations.specs.Programming.{programming, programLink}
 use Rattle.operations.specs.Records.{programRecords}
 use Rattle.operations.proofs.Counts.{program-count}
-use Rattle.page.specs.Links.{clear, accepted, Accepted}
+use Rattle.page.specs.Links.{Accepted}
+use Rattle.page.proofs.Acceptance.{accepted-clear}
 use Rattle.link.specs.Programmed.{programmed}
 
 -- the verdict on a call to `program`
@@ -30,15 +31,6 @@ verdict b l im log used = admitted (linkRefusal (b .variant) l) (endAfter (progr
 pub leaves-programmed : (b : Board) (l : Link) (im log : List ℕ) (used : ℕ) → verdict b l im log used ≡ Clear → programLink b l im log used .image ≡ programmed b l im
 leaves-programmed b l im log used e = ap (λ (v : Verdict). settled v well (programming b l) im [] log [] used .image) e
 
--- an accepted link is refused by no number of its own
-pub accepted-is-clear : (b : Board) (l : Link) → Accepted b l → linkRefusal (b .variant) l ≡ Clear
-unfolding accepted
-accepted-is-clear b l h = by (linkRefusal (b .variant) l) (both (clear (linkRefusal (b .variant) l)) _ h .0)
-  where
-    by : (v : Verdict) → T (clear v) → v ≡ Clear
-    by Clear t = refl
-    by (Refused e) t = absurd t
-
 -- where the log would end
 abbrev pub end : Board → ℕ → ℕ
 end b used = used + 3 * programRecords (b .variant) (b .«tcxo_used»)
@@ -47,7 +39,7 @@ end b used = used + 3 * programRecords (b .variant) (b .«tcxo_used»)
 pub by-26-and-24-alone : (b : Board) (l : Link) (im log : List ℕ) (used : ℕ) → Accepted b l
     → verdict b l im log used ≡ or (unless (formed im log used) BadImage) (unless (leb (end b used) (length log)) LogFull)
 unfolding admitted
-by-26-and-24-alone b l im log used h = rw (accepted-is-clear b l h, program-count b l im used)
+by-26-and-24-alone b l im log used h = rw (accepted-clear (b .variant) l h, program-count b l im used)
 
 -- so whole programming of one goes on wherever the call is well formed and its log has room
 pub accepted-goes-on : (b : Board) (l : Link) (im log : List ℕ) (used : ℕ) → Accepted b l → T (formed im log used) → end b used ≤ length log

@@ -158,3 +158,12 @@ module _ (v : Variant) (l : Link) where
       ▸ granted (ltb (l .frequency .0) 1024000000) FrequencyOutOfRange .1 (lt→ltb (l .frequency .0) 1024000000 (h .hz))
       ▸ tt))
       (lt→ltb (l .«preamble_length») 65536 (h .preamble))
+
+-- nothing refuses an accepted link
+pub accepted-clear : (v : Variant) (l : Link) → T (accepted v l) → linkRefusal v l ≡ Clear
+unfolding accepted
+accepted-clear v l h = by (linkRefusal v l) (both (clear (linkRefusal v l)) (ltb (l .«preamble_length») 65536) h .0)
+  where
+    by : (w : Verdict) → T (clear w) → w ≡ Clear
+    by Clear t = refl
+    by (Refused e) t = absurd t

@@ -44,12 +44,6 @@ fn link_had(variant: Variant, link: Link) -> Verdict
     had.or(band.or(header.or(range)))
 }
 
-pub fn link_refusal(variant: Variant, link: Link) -> Verdict
-    ensures { λ r. ⌜ r ≡ linkRefusal variant link ⌝ }
-{
-    link_named(link).or(link_had(variant, link))
-}
-
 // The first bandwidth that a variant has.
 fn narrowest(variant: Variant) -> u8
     ensures { λ r. ⌜ r ≡ narrowest variant ⌝ }
@@ -110,4 +104,14 @@ pub fn accepts(variant: Variant, link: Link) -> bool
         return false;
     }
     true
+}
+
+// Most links are accepted, and a row of verdicts is dear.
+pub fn link_refusal(variant: Variant, link: Link) -> Verdict
+    ensures { λ r. ⌜ r ≡ linkRefusal variant link ⌝ }
+{
+    if accepts(variant, link) {
+        return Verdict::Clear;
+    }
+    link_named(link).or(link_had(variant, link))
 }
