@@ -13,26 +13,16 @@ use crate::registers::learn;
 use params::board::Board;
 use params::mod_params::Link;
 
-// Frequency and power.
-fn guess_tuned(image: &[u8], board: Board) -> Link
+// What four registers tell, one after the other.
+fn learn_four(image: &[u8], board: Board, guess: Link, a: u8, b: u8, c: u8, d: u8) -> Link
     requires { ⌜ length (now image) ≡ 128 ⌝ }
-    ensures { λ r. ⌜ r ≡ learnt (placesOf board) (now (image .entry)) (0x06 ∷ 0x07 ∷ 0x08 ∷ 0x09 ∷ []) blank ⌝ }
+    requires { ⌜ (a < 128) × ((b < 128) × ((c < 128) × (d < 128))) ⌝ }
+    ensures { λ r. ⌜ r ≡ learnt (placesOf board) (now (image .entry)) (a ∷ b ∷ c ∷ d ∷ []) guess ⌝ }
 {
-    let guess = learn(blank(), board, 0x06, image[0x06]);
-    let guess = learn(guess, board, 0x07, image[0x07]);
-    let guess = learn(guess, board, 0x08, image[0x08]);
-    learn(guess, board, 0x09, image[0x09])
-}
-
-// The modem, and packets.
-fn guess_shaped(image: &[u8], board: Board, guess: Link) -> Link
-    requires { ⌜ length (now image) ≡ 128 ⌝ }
-    ensures { λ r. ⌜ r ≡ learnt (placesOf board) (now (image .entry)) (0x1d ∷ 0x1e ∷ 0x20 ∷ 0x21 ∷ []) guess ⌝ }
-{
-    let guess = learn(guess, board, 0x1d, image[0x1d]);
-    let guess = learn(guess, board, 0x1e, image[0x1e]);
-    let guess = learn(guess, board, 0x20, image[0x20]);
-    learn(guess, board, 0x21, image[0x21])
+    let guess = learn(guess, board, a, image[a as usize]);
+    let guess = learn(guess, board, b, image[b as usize]);
+    let guess = learn(guess, board, c, image[c as usize]);
+    learn(guess, board, d, image[d as usize])
 }
 
 // The registers that tell something, in the reader's order; the last is the SX1272's RegPaDac.
@@ -40,11 +30,12 @@ pub fn guess(image: &[u8], board: Board) -> Link
     requires { ⌜ length (now image) ≡ 128 ⌝ }
     ensures { λ r. ⌜ r ≡ guess (page board) (now (image .entry)) ⌝ }
 {
-    let guess = guess_tuned(image, board);
-    let guess = guess_shaped(image, board, guess);
-    let guess = learn(guess, board, 0x33, image[0x33]);
-    let guess = learn(guess, board, 0x39, image[0x39]);
-    learn(guess, board, 0x5a, image[0x5a])
+    let first = blank();
+    let tuned = learn_four(image, board, first, 0x06, 0x07, 0x08, 0x09);
+    let shaped = learn_four(image, board, tuned, 0x1d, 0x1e, 0x20, 0x21);
+    let inverted = learn(shaped, board, 0x33, image[0x33]);
+    let synced = learn(inverted, board, 0x39, image[0x39]);
+    learn(synced, board, 0x5a, image[0x5a])
 }
 
 // Whether an accepted link leaves four registers as they are.
