@@ -7,6 +7,5 @@ pub mod Power
 pub mod Lawful
 pub mod Cells
 pub mod Sequence
-pub mod Stays
 pub mod Left
 pub mod Registers

@@ -1,29 +1,27 @@
--- The test at a register is whether the values with its own fit a page's first places.
+-- The registers so far: they are a page's first places, and the guess from them is tried on them.
 -- Assumes nothing.
 use mathlib.Core.Path.{_≡_, refl, sym, ap, subst, _∙_}
-use mathlib.Core.Logic.{_↔_}
-use mathlib.Core.Bool.{Bool, true, false}
+use mathlib.Core.Bool.{Bool, true, false, _&&_}
 use mathlib.Core.List.{List, [], _∷_}
 use Prim.Native.Nat.{ℕ, zero, suc, _≤_, _<_}
 use native.Mathlib.Omega.{arith}
-use lib.Dec.{T, eqb, eqb→eq, eqb-refl}
+use lib.Dec.{T, eqb}
 use lib.ListN.{length, getD, take}
-use lib.Seq.{take-append-le, getD-take}
+use lib.Seq.{take-append-le, getD-take, length-take-le}
 use Rattle.sheets.specs.declared.Variant.{Variant}
 use Rattle.sheets.specs.declared.Variant.the-variants.{Sx1272, Sx1276}
-use Rattle.sheets.specs.Registers.{RegTcxo, RegModemConfig1, RegModemConfig2}
+use Rattle.sheets.specs.Registers.{RegTcxo}
 use Rattle.sheets.specs.Reader.{always, readerOrder}
 use Rattle.sheets.proofs.Sweep.{both, joined}
 use Rattle.params.specs.declared.mod_params.Link.{Link}
 use Rattle.params.specs.declared.board.Board.{Board}
-use Rattle.page.specs.Page.{Image, Place, Reading.found, Reading.notASetting, Holds, nowhere, find, pick, improved, written, guess, first, fits, read}
-use Rattle.page.proofs.Prefix.{guess-next, fits-next, refused-early, found-last}
+use Rattle.page.specs.Page.{Place, nowhere, find, improved, written, holds, guess, first, fits}
+use Rattle.page.proofs.Prefix.{guess-next}
 use Rattle.page.proofs.Find.{find-own}
-use Rattle.page.specs.Links.{accepted, Accepted}
+use Rattle.page.specs.Links.{accepted}
 use Rattle.page.specs.Lora.{places, blank, placesOf, page}
 use Rattle.page.proofs.Lawful.{lawful}
-use Rattle.page.proofs.Stays.{again, stays-all}
-use Rattle.reader.specs.Tests.{registers, keeps, keepsAgain, fitsAt}
+use Rattle.reader.specs.Tests.{registers, keeps}
 
 -- ---- the places' addresses are the reader's order
 
@@ -51,14 +49,26 @@ whole-order : (v : Variant) (tcxo : Bool) (n : ℕ) → n ≤ length (readerOrde
 whole-order v true n h = refl
 whole-order v false n h = take-append-le n (always v) (RegTcxo v ∷ []) h
 
--- ---- bytes that a link keeps
+-- ---- places that are kept
 
-equals : (x y : ℕ) → T (eqb x y) ↔ (x ≡ y)
-equals x y = (eqb→eq x y, (λ e. subst (λ (z : ℕ). T (eqb x z)) e (eqb-refl x)))
+pub same-test : (s t : Bool) → (T s → T t) → (T t → T s) → s ≡ t
+same-test true true f g = refl
+same-test true false f g = absurd (f tt)
+same-test false true f g = absurd (g tt)
+same-test false false f g = refl
 
-address-1d : (v : Variant) (boost tcxo : Bool) → (find RegModemConfig1 (places v boost tcxo)) .addr ≡ RegModemConfig1
-address-1d Sx1272 boost tcxo = refl
-address-1d Sx1276 boost tcxo = refl
+module _ (l : Link) (im : List ℕ) where
+  abbrev kept : Place Link → Bool
+  kept p = eqb (written p l (getD im (p .addr) 0)) (getD im (p .addr) 0)
+
+  each : (ps : List (Place Link)) → T (holds ps l im) → (i : ℕ) → i < length ps → T (kept (getD ps i nowhere))
+  each [] t i h = absurd (omega arith)
+  each (p ∷ ps) t zero h = both (kept p) (holds ps l im) t .0
+  each (p ∷ ps) t (suc i) h = each ps (both (kept p) (holds ps l im) t .1) i (omega arith)
+
+  all : (ps : List (Place Link)) → ((i : ℕ) → i < length ps → T (kept (getD ps i nowhere))) → T (holds ps l im)
+  all [] k = tt
+  all (p ∷ ps) k = joined (kept p) (holds ps l im) (k 0 (omega arith)) (all ps (λ i h. k (suc i) (omega arith)))
 
 module _ (b : Board) where
   pub registers-are : registers b ≡ length (placesOf b)
@@ -89,43 +99,28 @@ module _ (b : Board) where
         ∙ ap (improved here (getD im (here .addr) 0)) e
         ∙ sym (guess-next (page b) i im nowhere (omega (arith, registers-are)))
 
-    module _ (l : Link) (im : List ℕ) where
-      abbrev register : ℕ
-      register = getD (readerOrder (b .variant) true) i 0
+    keeps-is : (l : Link) (im : List ℕ) → keeps b l (getD (readerOrder (b .variant) true) i 0) im ≡ kept l im here
+    unfolding keeps
+    keeps-is l im = rw (order-at, found-here)
 
-      kept-here : T (keeps b l register im) ↔ (written here l (getD im (here .addr) 0) ≡ getD im (here .addr) 0)
-      unfolding keeps
-      kept-here = rw (order-at, found-here) (equals (written here l (getD im (here .addr) 0)) (getD im (here .addr) 0))
+  -- the first n registers hold a link exactly when each of them does
+  module _ (l : Link) (im : List ℕ) (n : ℕ) (h : n ≤ registers b) where
+    abbrev ps : List (Place Link)
+    ps = placesOf b
 
-      -- and RegModemConfig1, if it is to be looked at again
-      kept-if : (t : Bool) → T (pick t (keeps b l RegModemConfig1 im) true) ↔ Holds (pick t (find RegModemConfig1 (placesOf b) ∷ []) []) l im
-      unfolding keeps
-      kept-if true =
-          let q = find RegModemConfig1 (placesOf b) in
-          let (forth, back) = equals (written q l (getD im RegModemConfig1 0)) (getD im RegModemConfig1 0) in
-          let Kept : ℕ → Type 0 = λ a. written q l (getD im a 0) ≡ getD im a 0 in
-          let at = address-1d (b .variant) (b .«tx_boost») (b .«tcxo_used») in
-          ((λ t. (subst Kept (sym at) (forth t), tt)), (λ k. back (subst Kept at (k .0))))
-      kept-if false = ((λ t. tt), (λ k. tt))
+    size : length (take n ps) ≡ n
+    size = length-take-le n ps (omega (arith, registers-are))
 
-      kept-again : T (pick (eqb register RegModemConfig2) (keeps b l RegModemConfig1 im) true) ↔ Holds (again (placesOf b) here) l im
-      kept-again = rw order-at (kept-if (eqb (here .addr) RegModemConfig2))
+    pub first-each : T (holds (take n ps) l im) → (i : ℕ) → i < n → T (keeps b l (getD (readerOrder (b .variant) true) i 0) im)
+    first-each t i k =
+        rw (keeps-is i (omega arith) l im) (subst (λ (p : Place Link). T (kept l im p)) (getD-take n ps i nowhere k) (each l im (take n ps) t i (omega (arith, size))))
 
-      -- where the values so far fit, one test tells whether they fit with this one
-      pub so-far : Image im → l ≡ guess (first (page b) (suc i)) im → T (fits (first (page b) i) im) → T (fitsAt b l register im) ↔ T (fits (first (page b) (suc i)) im)
-      so-far I e f =
-          let (forth, back) = fits-next (page b) (again (placesOf b)) (lawful b) (stays-all b) i im nowhere I (omega (arith, registers-are)) f in
-          let Both : Link → Type 0 = λ t. Accepted b t × Holds (here ∷ again (placesOf b) here) t im in
-          let one = pick (eqb register RegModemConfig2) (keeps b l RegModemConfig1 im) true in
-          let two = keeps b l register im in (
-            (λ t.
-                let (a, k) = both (accepted (b .variant) l) (keepsAgain b l register im) t in
-                let (m, n) = both one two k in
-                back (subst Both e (a, (kept-here .0 n, kept-again .0 m)))),
-            (λ t.
-                let (a, k) = subst Both (sym e) (forth t) in
-                joined (accepted (b .variant) l) (keepsAgain b l register im) a (joined one two (kept-again .1 (k .1)) (kept-here .1 (k .0)))),
-          )
+    pub first-all : ((i : ℕ) → i < n → T (keeps b l (getD (readerOrder (b .variant) true) i 0) im)) → T (holds (take n ps) l im)
+    first-all f =
+        all l im (take n ps)
+        (λ i k.
+        let g : i < n = omega (arith, size) in
+        subst (λ (p : Place Link). T (kept l im p)) (sym (getD-take n ps i nowhere g)) (subst T (keeps-is i (omega arith) l im) (f i g)))
 
   -- ---- the reader's turns
 
@@ -133,11 +128,7 @@ module _ (b : Board) where
   unfolding fits
   begins im = joined (accepted (b .variant) blank) true (lawful b .starts) tt
 
-  pub refuses : (n : ℕ) (im : List ℕ) → n ≤ registers b → ¬ T (fits (first (page b) n) im) → read (page b) im ≡ notASetting
-  refuses n im h unfit = refused-early (page b) (lawful b) n im (omega (arith, registers-are)) unfit
-
-  pub finds : (n : ℕ) (im : List ℕ) (t : Link) → n ≡ registers b → t ≡ guess (first (page b) n) im → T (fits (first (page b) n) im) → read (page b) im ≡ found t
-  finds n im t h e f =
-      let all : n ≡ length (placesOf b) = h ∙ registers-are in
-      found-last (page b) (lawful b) im (subst (λ (k : ℕ). T (fits (first (page b) k) im)) all f)
-      ∙ ap found (sym (e ∙ ap (λ (k : ℕ). guess (first (page b) k) im) all))
+  -- a guess is tried on the values that it is from
+  pub fit-is : (n : ℕ) (im : List ℕ) (t : Link) → t ≡ guess (first (page b) n) im → (accepted (b .variant) t && holds (take n (placesOf b)) t im) ≡ fits (first (page b) n) im
+  unfolding fits
+  fit-is n im t e = rw e

@@ -11,7 +11,7 @@ use Rattle.page.specs.Page.{first, fits}
 use Rattle.page.specs.Lora.{page}
 use Rattle.reader.specs.Tests.{registers}
 
--- the first n values of the image are those of an accepted link
+-- the first n values of the image are those of an accepted link (`first-fits`, page/proofs/Prefix.antt)
 abbrev pub Fit : Board → List ℕ → ℕ → Type 0
 Fit b im n = T (fits (first (page b) n) im)
 

@@ -1,15 +1,13 @@
--- What the reader tests at a register: that the guess from the values so far is accepted, and that it leaves the byte there as it is.
-use mathlib.Core.Bool.{Bool, true, _&&_}
+-- What the reader asks of a register: whether a link leaves the byte there as it is, and what it tells of the link.
+use mathlib.Core.Bool.{Bool, _&&_}
 use mathlib.Core.List.{List, [], _∷_}
 use Prim.Native.Nat.{ℕ}
 use lib.Dec.{eqb}
 use lib.ListN.{length, getD}
-use Rattle.sheets.specs.Registers.{RegModemConfig1, RegModemConfig2}
 use Rattle.sheets.specs.Reader.{readerOrder}
 use Rattle.params.specs.declared.mod_params.Link.{Link}
 use Rattle.params.specs.declared.board.Board.{Board}
-use Rattle.page.specs.Page.{Place, pick, written, find, improved}
-use Rattle.page.specs.Links.{accepted}
+use Rattle.page.specs.Page.{Place, written, find, improved}
 use Rattle.page.specs.Lora.{placesOf}
 
 -- how many registers of the order a board has
@@ -22,13 +20,6 @@ keeps b l a im = eqb (written (find a (placesOf b)) l (getD im a 0)) (getD im a 
 
 abbrev pub keepsFour : Board → Link → (a b c d : ℕ) → List ℕ → Bool
 keepsFour board l a b c d im = keeps board l a im && (keeps board l b im && (keeps board l c im && keeps board l d im))
-
--- and, where that is RegModemConfig2, RegModemConfig1 too
-abbrev pub keepsAgain : Board → Link → ℕ → List ℕ → Bool
-keepsAgain b l a im = pick (eqb a RegModemConfig2) (keeps b l RegModemConfig1 im) true && keeps b l a im
-
-abbrev pub fitsAt : Board → Link → ℕ → List ℕ → Bool
-fitsAt b l a im = accepted (b .variant) l && keepsAgain b l a im
 
 -- what these registers tell, one after the other
 abbrev pub learnt : List (Place Link) → List ℕ → List ℕ → Link → Link

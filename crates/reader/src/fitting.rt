@@ -1,9 +1,12 @@
-// A guess on trial: whether it fits the register that the reader has looked at.
+// A guess on trial: whether it fits the registers that the reader has looked at.
 ghost use mathlib.Core.Path.{_≡_};
-ghost use Prim.Native.Nat.{_<_};
-ghost use lib.ListN.{length};
-ghost use Rattle.page.specs.Links.{Accepted};
-ghost use Rattle.reader.specs.Tests.{registers, keeps, keepsAgain, fitsAt};
+ghost use mathlib.Core.Bool.{_&&_};
+ghost use Prim.Native.Nat.{_≤_, _<_};
+ghost use lib.ListN.{length, take};
+ghost use Rattle.page.specs.Page.{holds};
+ghost use Rattle.page.specs.Links.{accepted, Accepted};
+ghost use Rattle.page.specs.Lora.{placesOf};
+ghost use Rattle.reader.specs.Tests.{registers, keeps};
 use params::board::Board;
 use params::mod_params::Link;
 use programming::acceptance::accepts;
@@ -32,30 +35,31 @@ pub fn keeps(image: &[u8], board: Board, link: Link, register: u8) -> bool
     byte_left(board, link, register, old) == old
 }
 
-// RegModemConfig2 has the spreading factor, which the optimize flag in RegModemConfig1 of the SX1272 depends on: that one is
-// looked at again.
-fn keeps_again(image: &[u8], board: Board, link: Link, register: u8) -> bool
-    requires { ⌜ (length (now image) ≡ 128) × (register < 128) ⌝ }
+// Whether an accepted link leaves the first n registers of the order as they are.
+fn first_hold(image: &[u8], board: Board, link: Link, n: usize) -> bool
+    requires { ⌜ (length (now image) ≡ 128) × (n ≤ registers board) ⌝ }
     requires { ⌜ Accepted board link ⌝ }
-    ensures { λ r. ⌜ r ≡ keepsAgain board link register (now (image .entry)) ⌝ }
+    ensures { λ r. ⌜ r ≡ holds (take n (placesOf board)) link (now (image .entry)) ⌝ }
 {
-    if register != 0x1e {
-        return keeps(image, board, link, register);
+    let variant = board.variant;
+    let mut i = 0;
+    while i < n {
+        if !keeps(image, board, link, variant.reader_order(i)) {
+            return false;
+        }
+        i += 1;
     }
-    if !keeps(image, board, link, 0x1d) {
-        return false;
-    }
-    keeps(image, board, link, register)
+    true
 }
 
-// Whether a guess fits a register: it is accepted, and leaves the register as it is.
-pub fn fits(image: &[u8], board: Board, guess: Link, register: u8) -> bool
-    requires { ⌜ (length (now image) ≡ 128) × (register < 128) ⌝ }
-    ensures { λ r. ⌜ r ≡ fitsAt board guess register (now (image .entry)) ⌝ }
+// Whether a guess fits the first n registers: it is accepted, and they hold it.
+pub fn fits(image: &[u8], board: Board, guess: Link, n: usize) -> bool
+    requires { ⌜ (length (now image) ≡ 128) × (n ≤ registers board) ⌝ }
+    ensures { λ r. ⌜ r ≡ (accepted (board .variant) guess && holds (take n (placesOf board)) guess (now (image .entry))) ⌝ }
 {
     let variant = board.variant;
     if !accepts(variant, guess) {
         return false;
     }
-    keeps_again(image, board, guess, register)
+    first_hold(image, board, guess, n)
 }

@@ -37,7 +37,7 @@ pub fn examined(image: &[u8], board: Board) -> usize
         let register = variant.reader_order(i);
         guess = learn(guess, board, register, image[register as usize]);
         i += 1;
-        if !fits(image, board, guess, register) {
+        if !fits(image, board, guess, i) {
             return i;
         }
     }

@@ -2,8 +2,6 @@
 -- Assumes nothing.
 use borrow.Author.Needs.{needs}
 use mathlib.Core.Path.{_≡_, sym, subst, _∙_}
-use mathlib.Core.Logic.{_↔_}
-use mathlib.Core.Bool.{true, false, true≢false}
 use Prim.Native.Nat.{ℕ, _+_, _-_, _≤_, _<_}
 use native.Mathlib.Numerals.{add-one}
 use native.Mathlib.Omega.{arith}
@@ -11,11 +9,11 @@ use borrow.Author.Count.{below-more}
 use borrow.Author.Tests.{not-true, not-false}
 use lib.Dec.{T}
 use denote.Ref.{now}
-use Rattle.page.specs.Page.{Image, guess as guessed, first, fits}
+use Rattle.page.specs.Page.{guess as guessed, first, fits}
 use Rattle.page.specs.Lora.{page}
 use Rattle.reader.specs.Look.{Fit}
 use Rattle.reader.proofs.fitting.Order.{order-lt, order-le}
-use Rattle.reader.proofs.SoFar.{so-far, next-guess, begins}
+use Rattle.reader.proofs.SoFar.{next-guess, begins, fit-is}
 use Rattle.reader.proofs.examined.Statement.{statement}
 use Rattle.reader.proofs.examined.Tie as tie
 
@@ -24,9 +22,6 @@ Inv-loop image board variant n guess₀ i₀ guess i = (i ≤ n) × (guess ≡ g
 
 abbrev μ-loop : tie.MeasureT-loop
 μ-loop image board variant n guess₀ i₀ guess i = n - i
-
-image-is : (c : tie.After-shared-slice-known Inv-loop μ-loop) → Image (now (c .before .args .image))
-image-is c = record { size = c .before .pre; byte = λ a. c .shared-slice-known .given a .fits }
 
 loop-holds : tie.Need-loop-holds Inv-loop μ-loop
 loop-holds c = let a = c .before .before .before .args in (omega arith, c .blank .ensures, λ k h. let z : 0 ≡ k = omega arith in subst (Fit (a .board) (now (a .image))) z (begins (a .board) (now (a .image))))
@@ -55,19 +50,14 @@ improved-guess c =
     let next = next-guess (a .board) (l .loop .i) (omega (arith, r .registers .ensures)) (now (a .image)) (l .loop .guess) (l .loop .inv .1) in
     rw (add-one (l .loop .i)) ((rw (o .reader-order .ensures) at (c .learn .ensures)) ∙ next)
 
--- the test at the register tells whether the values with its own fit
+-- the test tells whether the values with the register's own fit
 told : (c : tie.After-fits2 Inv-loop μ-loop) → let l = c .before .before .before .before .before in let a = l .before .before .before .before .args in
-    T (c .fits2 .result) ↔ Fit (a .board) (now (a .image)) (l .loop .i + 1)
+    c .fits2 .result ≡ fits (first (page (a .board)) (l .loop .i + 1)) (now (a .image))
 told c =
     let g = c .before in
-    let o = g .before .before in
-    let l = o .before .before in
-    let r = l .before .before in
-    let a = r .before .before .args in
-    let i = l .loop .i in
-    rw (c .fits2 .ensures, o .reader-order .ensures, add-one i)
-    (so-far (a .board) i (omega (arith, r .registers .ensures)) (g .learn .result) (now (a .image)) (image-is (r .before)) (rw (add-one i) at (improved-guess g))
-    (l .loop .inv .2 i (omega arith)))
+    let l = g .before .before .before .before in
+    let a = l .before .before .before .before .args in
+    c .fits2 .ensures ∙ fit-is (a .board) (l .loop .i + 1) (now (a .image)) (g .learn .result) (improved-guess g)
 
 returns : tie.Need-returns Inv-loop μ-loop
 returns c =
@@ -76,14 +66,14 @@ returns c =
     let r = l .before .before in
     let a = r .before .before .args in
     let i = l .loop .i in
-    let unfit : Fit (a .board) (now (a .image)) (i + 1) → ⊥ = λ f. subst T (not-true (c .before .fits2 .result) (c .if1 .taken)) (told (c .before) .1 f) in
+    let unfit : Fit (a .board) (now (a .image)) (i + 1) → ⊥ = λ f. subst T (not-true (c .before .fits2 .result) (c .if1 .taken)) (subst T (sym (told (c .before))) f) in
     record { within = omega (arith, r .registers .ensures); before = λ n h. l .loop .inv .2 n (omega arith); last = λ f. absurd (unfit f) }
 
 loop-again : tie.Need-loop-again Inv-loop μ-loop
 loop-again c =
     let g = c .before .before in
     let l = g .before .before .before .before in
-    let here = told (c .before) .0 (rw (not-false (c .before .fits2 .result) (c .if1 .left)) tt) in
+    let here = subst T (told (c .before)) (rw (not-false (c .before .fits2 .result) (c .if1 .left)) tt) in
     (omega arith, improved-guess g, below-more _ _ (l .loop .inv .2) here)
 
 returns-2 : tie.Need-returns-2 Inv-loop μ-loop
@@ -106,7 +96,7 @@ examined-spec =
     (λ c. omega (arith, register-lt (c .before)))
     (λ c κs. search needs)
     (λ c. search needs)
-    (λ c κs. (search needs, register-lt (c .before .before)))
+    (λ c κs. let r = c .before .before .before .before .before .before in (search needs, omega (arith, r .registers .ensures)))
     returns
     (λ c. search needs)
     loop-again

@@ -20,14 +20,7 @@ use Rattle.page.proofs.Left.{kept-byte}
 use Rattle.page.proofs.Lawful.{lawful}
 use Rattle.page.proofs.Registers.{member, among}
 use Rattle.reader.specs.Tests.{keeps, keepsFour, learnt}
-
--- ---- two tests that tell the same
-
-pub same-test : (s t : Bool) → (T s → T t) → (T t → T s) → s ≡ t
-same-test true true f g = refl
-same-test true false f g = absurd (f tt)
-same-test false true f g = absurd (g tt)
-same-test false false f g = refl
+use Rattle.reader.proofs.SoFar.{same-test}
 
 -- ---- registers that are kept
 

@@ -8,8 +8,8 @@ use Rattle.reader.proofs.fitting.fits.Tie as tie
 returns : tie.Need-returns
 returns c = let k = c .before in rw (← k .accepts .ensures, not-true (k .accepts .result) (c .if1 .taken))
 
-keeps-again-requires : tie.Need-keeps-again-requires
-keeps-again-requires c κs =
+first-hold-requires : tie.Need-first-hold-requires
+first-hold-requires c κs =
     let k = c .before in
     (k .before .before .pre, rw (← k .accepts .ensures, not-false (k .accepts .result) (c .if1 .left)) tt)
 
@@ -17,7 +17,7 @@ returns-2 : tie.Need-returns-2
 returns-2 c =
     let e = c .before in
     let k = e .before in
-    rw (← k .accepts .ensures, not-false (k .accepts .result) (e .if1 .left)) (c .keeps-again .ensures)
+    rw (← k .accepts .ensures, not-false (k .accepts .result) (e .if1 .left)) (c .first-hold .ensures)
 
 pub fits-spec : {M : Type 1} → statement M
-fits-spec = tie.close (tie.spec (λ c κs. search needs) returns keeps-again-requires returns-2)
+fits-spec = tie.close (tie.spec (λ c κs. search needs) returns first-hold-requires returns-2)

@@ -9,7 +9,8 @@ use denote.Ref.{now}
 use Rattle.page.specs.Page.{Image, holds}
 use Rattle.page.specs.Lora.{placesOf}
 use Rattle.page.proofs.Acceptance.{_▸_}
-use Rattle.reader.proofs.whole.Each.{same-test, holds-all, holds-any, apart, unheld}
+use Rattle.reader.proofs.SoFar.{same-test}
+use Rattle.reader.proofs.whole.Each.{holds-all, holds-any, apart, unheld}
 use Rattle.reader.proofs.whole.holds.Statement.{statement}
 use Rattle.reader.proofs.whole.holds.Tie as tie
 
