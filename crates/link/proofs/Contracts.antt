@@ -6,11 +6,10 @@ use mathlib.Core.List.{List, []}
 use Prim.Native.Nat.{ℕ, _+_, _*_, _≤_}
 use lib.Dec.{T, leb, le→leb}
 use lib.ListN.{length}
-use Rattle.sheets.proofs.Sweep.{both}
 use Rattle.params.specs.declared.mod_params.Link.{Link}
 use Rattle.params.specs.declared.mod_params.RadioError.the-variants.{BadImage, LogFull}
 use Rattle.params.specs.declared.mod_params.Verdict.{Verdict}
-use Rattle.params.specs.declared.mod_params.Verdict.the-variants.{Clear, Refused}
+use Rattle.params.specs.declared.mod_params.Verdict.the-variants.{Clear}
 use Rattle.params.specs.declared.board.Board.{Board}
 use Rattle.params.specs.Errors.{or}
 use Rattle.refusals.specs.Refusals.{unless, linkRefusal}

@@ -1,7 +1,7 @@
 -- Powers held to a range.
-use mathlib.Core.Bool.{Bool, true, false, cond}
+use mathlib.Core.Bool.{Bool, cond}
 use Prim.Native.Nat.{ℕ}
-use lib.IntN.{ℤ, pos, natAbs, _-ℤ_}
+use lib.IntN.{ℤ, natAbs, _-ℤ_}
 use lib.Signed.{ltZ, _≤ℤ_}
 use Rattle.sheets.specs.declared.Variant.{Variant}
 use Rattle.sheets.specs.Power.{least, most}

@@ -1,10 +1,8 @@
 -- `reader::read_registers` meets its contract: the guess is the link where it is accepted and the registers hold it.
 -- Assumes nothing.
 use borrow.Author.Needs.{needs}
-use mathlib.Core.Path.{_≡_, refl, sym, _∙_}
-use mathlib.Core.Bool.{Bool, true, false, _&&_}
+use mathlib.Core.Path.{refl}
 use borrow.Author.Tests.{not-true, not-false}
-use denote.Ref.{now}
 use Rattle.page.specs.Page.{fits, read}
 use Rattle.reader.proofs.read_registers.Statement.{statement}
 use Rattle.reader.proofs.read_registers.Tie as tie

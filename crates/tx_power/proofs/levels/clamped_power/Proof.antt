@@ -1,7 +1,6 @@
 -- `tx_power::levels::clamped_power` meets its contract: each output has its own range.
 -- Assumes nothing.
 use borrow.Author.Needs.{needs}
-use mathlib.Core.Path.{_≡_}
 use mir.Syntax.{w32}
 use mir.ValLaws.{toZ-ofZ}
 use Rattle.sheets.specs.Power.{clamped}
