@@ -23,7 +23,8 @@
  * What else a call tells it puts into `results`, as many as there are places for (NULL and 0 for none):
  *   results[0]   the bytes of the log that are used afterwards, also after a refusal; hand them to the next call.
  *                0 from a call that takes no log.
- *   results[1..] the values, as each function's comment lists them; after a refusal those that its name below lists.
+ *   results[1..] the values, as each function's comment lists them; after a refusal those that its name below lists,
+ *                and from sx127x_airtime the line's number whatever the refusal.
  * Other places are left alone. A length or a base comes as the int64_t of the same 64 bits.
  *
  * The slices that are lent to one call must not overlap. A slice of length 0 may be NULL.
@@ -72,7 +73,9 @@ enum {
     SX127X_RECORD_SIZE = 3,  /* a record of the log; a log is a whole number of them */
     SX127X_MAX_RECORDS = 30, /* no call appends more */
     SX127X_MAX_RESULTS = 11, /* no call tells more */
-    SX127X_MAX_PAYLOAD = 255
+    SX127X_MAX_PAYLOAD = 255,
+    SX127X_MAX_LINES = 50000, /* a depot's file has no more */
+    SX127X_MAX_LINE_SIZE = 32 /* a line of an accepted one is no longer, its LF counted */
 };
 
 /* ---- records: kind, address, data
@@ -117,7 +120,8 @@ enum {
     SX127X_CARRIER_UNSUPPORTED = 25,              /* the carrier test is the SX1276's alone */
     SX127X_BAD_IMAGE = 26,                        /* an image not of 128 bytes or a FIFO not of 256; a log's length or
                                                      used bytes no multiple of 3; more bytes used than the log has */
-    SX127X_NOT_A_LINK = 27                        /* no link leaves these registers */
+    SX127X_NOT_A_LINK = 27,                       /* no link leaves these registers */
+    SX127X_BAD_LINE = 28                          /* a line of bad form, out of range or one too many; its number */
 };
 
 /* An answer's name, for people. */
@@ -141,6 +145,7 @@ static inline const char *sx127x_answer_name(int32_t answer)
     case SX127X_CARRIER_UNSUPPORTED: return "CarrierUnsupported";
     case SX127X_BAD_IMAGE: return "BadImage";
     case SX127X_NOT_A_LINK: return "NotALink";
+    case SX127X_BAD_LINE: return "BadLine";
     default: return "no answer of this driver";
     }
 }
@@ -340,6 +345,43 @@ int32_t sx127x_program(uint8_t *image, uint64_t image_len, uint8_t *log, uint64_
  * Refusals: 26, 27. */
 int32_t sx127x_read_link(const uint8_t *image, uint64_t image_len, uint8_t board, int64_t *results,
                          uint64_t results_len);
+
+/* ---- a depot's file */
+
+/* Adds up the airtime of a depot's file of sent packets. It takes the text of the whole file, and no image, log or
+ * board. Values: the total of each bandwidth in microseconds, in the order of their codes; each is exact until it is
+ * rounded up once at the end. An empty text has ten times 0.
+ *
+ * A line is a packet: eight decimal numbers parted by one tab each, without sign or leading 0, and an LF:
+ *   pack id, 32 bits; spreading factor; bandwidth; coding rate; preamble, 0 to 65,535; length, 0 to 255; implicit
+ *   header, 0 or 1; CRC, 0 or 1
+ * At most SX127X_MAX_LINES lines; what follows the last LF is a line of bad form.
+ *
+ * The first bad line refuses the file. Value: its number, from 1.
+ * Refusals of a line: 28 (its form; the id, the preamble or the length out of range; a line after the 50,000th), 8
+ * (spreading factor, bandwidth, coding rate, implicit header, CRC), 14, 17.
+ *
+ * To print a file's totals, or which of its lines is bad (with <inttypes.h> and <stdio.h>; examples/c/airtime.c):
+ *
+ *   static uint8_t text[SX127X_MAX_LINES * SX127X_MAX_LINE_SIZE + 1];   a longer file is refused by its start
+ *   int64_t results[SX127X_MAX_RESULTS];
+ *   FILE *file = fopen("depot.txt", "rb");
+ *   if (file == NULL) {
+ *       perror("depot.txt");
+ *       return 1;
+ *   }
+ *   size_t length = fread(text, 1, sizeof text, file);
+ *   fclose(file);
+ *   int32_t answer = sx127x_airtime(text, length, results, SX127X_MAX_RESULTS);
+ *   if (answer == SX127X_OK) {
+ *       for (int bandwidth = SX127X_BW_7; bandwidth <= SX127X_BW_500; bandwidth++) {
+ *           printf("%" PRId64 "\n", results[1 + bandwidth]);
+ *       }
+ *   } else {
+ *       printf("line %" PRId64 ": %s\n", results[1], sx127x_answer_name(answer));
+ *   }
+ */
+int32_t sx127x_airtime(const uint8_t *text, uint64_t text_len, int64_t *results, uint64_t results_len);
 
 #ifdef __cplusplus
 }

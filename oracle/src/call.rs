@@ -62,7 +62,7 @@ const IQ: Argument = byte("iq");
 const MODE: Argument = byte("mode");
 const RXMODE: Argument = byte("rxmode");
 
-/// The public calls: the Rust's operations, whole programming and the reader.
+/// The public calls: the Rust's operations, whole programming, the reader and a depot's airtime.
 #[derive(Clone, Copy, Debug, PartialEq, Eq)]
 pub enum Operation {
     InitLora,
@@ -87,6 +87,7 @@ pub enum Operation {
     SetTxContinuousWaveMode,
     Program,
     ReadLink,
+    Airtime,
 }
 
 type Entry = (Operation, &'static str, &'static [Argument]);
@@ -115,10 +116,11 @@ const TABLE: [Entry; Operation::COUNT] = [
     (Operation::SetTxContinuousWaveMode, "set_tx_continuous_wave_mode", &[]),
     (Operation::Program, "program", &[PUBLIC, SF, BW, CR, HZ, PREAMBLE, IMPLICIT, CRC, IQ, POWER]),
     (Operation::ReadLink, "read_link", &[]),
+    (Operation::Airtime, "airtime", &[]),
 ];
 
 impl Operation {
-    pub const COUNT: usize = 22;
+    pub const COUNT: usize = 23;
 
     pub fn all() -> impl Iterator<Item = Operation> {
         TABLE.iter().map(|entry| entry.0)
@@ -136,9 +138,9 @@ impl Operation {
         Operation::all().find(|operation| operation.name().as_bytes() == name)
     }
 
-    /// `create_` calls look at their arguments alone.
+    /// `create_` calls look at their arguments alone, `airtime` at a text.
     pub fn is_lent_an_image(self) -> bool {
-        !matches!(self, Operation::CreateModulationParams | Operation::CreatePacketParams)
+        !matches!(self, Operation::CreateModulationParams | Operation::CreatePacketParams | Operation::Airtime)
     }
 
     /// All that are lent an image append to a log, but for the reader.
@@ -148,6 +150,11 @@ impl Operation {
 
     pub fn is_lent_a_fifo(self) -> bool {
         matches!(self, Operation::SetPayload | Operation::GetRxPayload)
+    }
+
+    /// A payload, a receive buffer, or the text of a depot's file.
+    pub fn is_lent_a_buffer(self) -> bool {
+        self.is_lent_a_fifo() || self == Operation::Airtime
     }
 }
 
@@ -235,7 +242,7 @@ impl Call {
 pub enum Source {
     /// The unchanged Rust's, over the mock.
     Rust,
-    /// Ours: a refusal that the Rust has not, or the reader, which has no Rust side.
+    /// Ours: a refusal that the Rust has not, or the reader or a depot's airtime, which have no Rust side.
     Ours,
     /// The Rust panicked where document 01 has an answer, or the mock met what it does not know; and how.
     Panic(String),

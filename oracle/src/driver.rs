@@ -174,6 +174,11 @@ fn bandwidth(code: i128) -> Bandwidth {
     [_7KHz, _10KHz, _15KHz, _20KHz, _31KHz, _41KHz, _62KHz, _125KHz, _250KHz, _500KHz][code as usize]
 }
 
+/// A bandwidth in hertz.
+pub fn hertz(code: i128) -> i128 {
+    u32::from(bandwidth(code)) as i128
+}
+
 fn coding_rate(code: i128) -> CodingRate {
     use CodingRate::*;
     [_4_5, _4_6, _4_7, _4_8][code as usize - 1]

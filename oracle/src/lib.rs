@@ -1,4 +1,5 @@
 //! The oracle: what a call of the driver is to answer, told by the unchanged Rust over a mock bus and pins.
+pub mod airtime;
 pub mod call;
 pub mod chip;
 pub mod driver;
@@ -11,6 +12,7 @@ pub mod reader;
 pub mod rules;
 pub mod run;
 pub mod text;
+pub mod texts;
 
 pub use call::{Argument, Board, Call, Numbers, Operation, Outcome, Source, Variant};
 pub use run::{run, run_into};

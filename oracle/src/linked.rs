@@ -75,6 +75,7 @@ pub fn answer(call: &Call, board: u8, out: &mut Outcome, results: &mut [u64]) ->
         Operation::SetTxContinuousWaveMode => sx127x::set_tx_continuous_wave_mode(image, log, used, board, results),
         Operation::Program => programmed(image, log, used, board, arguments, results),
         Operation::ReadLink => sx127x::read_link(image, board, results),
+        Operation::Airtime => sx127x::airtime(buffer, results),
     }
 }
 

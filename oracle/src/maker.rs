@@ -4,6 +4,7 @@ use crate::chip::{Chip, FIFO, IMAGE};
 use crate::driver::{ask, Question};
 use crate::random::Random;
 use crate::rules::records;
+use crate::texts::{accepted_line, any_line, put, spoil};
 use std::cell::RefCell;
 
 /// The frequencies at which document 01 changes something, and their neighbours.
@@ -118,6 +119,16 @@ impl Maker {
             let received = self.call.image[0x13] as usize;
             self.lend_buffer(if self.call.operation == Operation::GetRxPayload { received } else { 16 });
         }
+        if self.call.operation == Operation::Airtime {
+            self.add_lines();
+        }
+    }
+
+    /// A few lines more of a depot's file, all accepted.
+    fn add_lines(&mut self) {
+        for _ in 0..self.random.below(8) {
+            put(&mut self.call.buffer, &accepted_line(&mut self.random));
+        }
     }
 
     pub fn lend_buffer(&mut self, length: usize) {
@@ -125,11 +136,13 @@ impl Maker {
         self.random.fill(&mut self.call.buffer);
     }
 
-    /// A FIFO and a buffer for a call that is lent none: they come back as they are.
+    /// A FIFO, and a buffer, for a call that is lent none: they come back as they are.
     pub fn put_unlent(&mut self) {
         let (fifo, buffer) = (self.random.below(5) as usize, self.random.below(5) as usize);
         self.call.fifo.resize(fifo, 0xf1);
-        self.call.buffer.resize(buffer, 0xb0);
+        if !self.call.operation.is_lent_a_buffer() {
+            self.call.buffer.resize(buffer, 0xb0);
+        }
     }
 
     fn random_image(&mut self) -> [u8; IMAGE] {
@@ -269,12 +282,23 @@ impl Maker {
                 let length = (length + self.random.below(4) as usize).saturating_sub(1);
                 self.lend_buffer(length);
             }
+            Operation::Airtime if self.random.one_in(2) => self.vary_text(),
             _ if self.random.one_in(32) => self.put_unlent(),
             _ => {}
         }
         if self.call.operation.is_lent_a_fifo() && self.random.one_in(64) {
             let length = self.random.pick(&[0, 255, 257, 512]);
             self.call.fifo.resize(length, 0);
+        }
+    }
+
+    /// A line that may be refused among the others, or a byte that does not belong.
+    fn vary_text(&mut self) {
+        if self.random.one_in(2) {
+            put(&mut self.call.buffer, &any_line(&mut self.random));
+            self.add_lines();
+        } else {
+            spoil(&mut self.random, &mut self.call.buffer);
         }
     }
 }

@@ -95,6 +95,7 @@ pub fn records(board: Board, operation: Operation, arguments: &[i128]) -> usize 
         Operation::SetTxContinuousWaveMode => 6,
         Operation::Program => of(29, 22) + board.tcxo_used as usize,
         Operation::SetTxRxBufferBaseAddress => 2,
-        Operation::CreateModulationParams | Operation::CreatePacketParams | Operation::ReadLink => 0,
+        Operation::CreateModulationParams | Operation::CreatePacketParams => 0,
+        Operation::ReadLink | Operation::Airtime => 0,
     }
 }

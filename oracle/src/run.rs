@@ -1,4 +1,5 @@
 //! A call's outcome: our own refusals, where the Rust has none, and for all the rest the Rust over the mock.
+use crate::airtime::airtime;
 use crate::call::{Call, Numbers, Operation, Outcome, Source};
 use crate::chip::{Chip, FIFO, IMAGE};
 use crate::driver::{ask, Answer, Question};
@@ -18,9 +19,14 @@ pub fn run_into(call: &Call, outcome: &mut Outcome) {
     if let Some(refusal) = before_the_rust(call) {
         return refuse(outcome, refusal);
     }
-    if call.operation == Operation::ReadLink {
-        return read_into(call, outcome);
+    match call.operation {
+        Operation::ReadLink => read_into(call, outcome),
+        Operation::Airtime => add_up_into(call, outcome),
+        _ => ask_into(call, outcome),
     }
+}
+
+fn ask_into(call: &Call, outcome: &mut Outcome) {
     let chip = RefCell::new(lent_chip(call));
     let question = Question { board: call.board, operation: call.operation, arguments: &call.arguments };
     match ask(&question, &chip, &mut outcome.buffer) {
@@ -75,6 +81,13 @@ fn read_into(call: &Call, outcome: &mut Outcome) {
     match read_link(call.board, image) {
         Some(link) => outcome.values = link,
         None => refuse(outcome, Refusal { number: 27, values: Numbers::NONE }),
+    }
+}
+
+fn add_up_into(call: &Call, outcome: &mut Outcome) {
+    match airtime(&call.buffer) {
+        Ok(totals) => outcome.values = totals,
+        Err(bad) => refuse(outcome, Refusal { number: bad.refusal, values: Numbers::of(&[bad.line]) }),
     }
 }
 

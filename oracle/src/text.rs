@@ -135,6 +135,11 @@ pub fn print(outcome: &Outcome) -> String {
     line
 }
 
+/// Whether a line can hold the call.
+pub fn holds(call: &Call) -> bool {
+    [&call.image, &call.fifo, &call.buffer, &call.log].iter().all(|bytes| bytes.len() <= LONGEST_SLICE)
+}
+
 /// A call's line, without its LF.
 pub fn print_call(call: &Call) -> String {
     let Board { variant, tcxo_used, tx_boost, rx_boost } = call.board;

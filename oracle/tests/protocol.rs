@@ -32,6 +32,18 @@ fn outcomes() {
     assert_eq!(with(6, "4 1"), "26\t00ff\t-\t-\t-\t0");
 }
 
+/// A depot's file is the buffer; nothing else is looked at.
+#[test]
+fn depots() {
+    let asked = |text: &str| answer(format!("1272\t1\t0\t1\tairtime\t-\t00ff\tf0\t{text}\te0e1\t77").as_bytes());
+    let line = "310937093709310938093130093009310a";
+    assert_eq!(asked(line), format!("0 0 0 0 0 0 0 0 41216 0 0\t00ff\tf0\t{line}\te0e1\t77"));
+    assert_eq!(asked("-"), "0 0 0 0 0 0 0 0 0 0 0\t00ff\tf0\t-\te0e1\t77");
+    assert_eq!(asked(&format!("{line}0a")), format!("28 2\t00ff\tf0\t{line}0a\te0e1\t77"));
+    assert_eq!(asked(""), "?\tfield 9: expected lower-case hex of up to 1024 bytes");
+    assert_eq!(with(5, "airtime"), "?\tfield 6: expected arguments: -");
+}
+
 #[test]
 fn bad_fields() {
     assert_eq!(answer(b""), "?\texpected 11 fields");

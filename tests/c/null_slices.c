@@ -7,10 +7,10 @@
 
 enum { BOARD = SX127X_SX1276 | SX127X_TX_BOOST, RECEIVED = 5, REG_RX_NB_BYTES = 0x13 };
 
-/* Bytes are a payload or a receive buffer. */
+/* Bytes are a payload, a receive buffer or a depot's file. */
 enum { IMAGE, FIFO, LOG, BYTES, SLICES };
 
-static const char *const left_out[SLICES] = {"no image", "no FIFO", "no log", "no payload or buffer"};
+static const char *const left_out[SLICES] = {"no image", "no FIFO", "no log", "no payload, buffer or file"};
 
 struct slice {
     uint8_t *start;
@@ -57,6 +57,7 @@ CALL(set_irq_params, BOTH, SX127X_MODE_TRANSMIT, 0)
 CALL(process_irq_event, BOTH, SX127X_MODE_TRANSMIT, 0, 1)
 CALL(program, BOTH, BOARD, 1, SX127X_SF9, SX127X_BW_125, SX127X_CR_4_5, 868100000, 8, 0, 1, 0, 14)
 CALL(read_link, OF(IMAGE), BOARD)
+CALL(airtime, OF(BYTES))
 
 /* The answer without an image, a FIFO, a log, bytes; 0 where a call is not lent that slice. Without results it is 0. */
 static const struct {
@@ -86,6 +87,7 @@ static const struct {
     {"process_irq_event", process_irq_event, {26, 0, 24, 0}},
     {"program", program, {26, 0, 24, 0}},
     {"read_link", read_link, {26, 0, 0, 0}},
+    {"airtime", airtime, {0, 0, 0, 0}},
 };
 
 /* ---- what is lent */
@@ -116,10 +118,11 @@ static struct lent lend_without(struct memory *m, int slice)
     return l;
 }
 
-/* Registers that hold a link, and a packet of five bytes received. */
+/* Registers that hold a link, a packet of five bytes received, and bytes that are a file of one line. */
 static void fill(struct memory *m)
 {
     memset(m, 0, sizeof *m);
+    memcpy(m->bytes, "1\t7\t7\t1\t8\t5\t0\t1\n", sizeof m->bytes);
     struct lent l = lend(m);
     expect(program(&l) == SX127X_OK, "program", "to begin with");
     memset(m->log, 0, sizeof m->log);
@@ -194,6 +197,18 @@ static void empty_buffer(void)
     expect(get_rx_payload(&l) == SX127X_OK && m.results[1] == 0, "get_rx_payload", "an empty packet");
 }
 
+/* A file of no bytes has no line that could be bad, and totals of 0; its answer is told like any other's. */
+static void empty_file(void)
+{
+    struct memory m;
+    fill(&m);
+    struct lent l = lend_without(&m, BYTES);
+    expect(airtime(&l) == SX127X_OK, "airtime", "an empty file");
+    for (size_t n = 0; n < SX127X_MAX_RESULTS; n++) {
+        expect(m.results[n] == 0, "airtime", "an empty file");
+    }
+}
+
 /* A log of no bytes has none that are used. */
 static void used_of_no_log(void)
 {
@@ -214,6 +229,7 @@ int main(void)
     }
     empty_payload();
     empty_buffer();
+    empty_file();
     used_of_no_log();
     if (failures == 0) {
         printf("NULL slices: as expected\n");

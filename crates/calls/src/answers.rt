@@ -1,6 +1,7 @@
 // An answer, as text at the start of a lent place.
 ghost use Prim.Native.Nat.{_≤_};
 ghost use lib.ListN.{length};
+use params::answers::AirtimeAnswer;
 use params::answers::Answer;
 use params::answers::IrqAnswer;
 use params::answers::LinkAnswer;
@@ -8,6 +9,7 @@ use params::answers::ModulationAnswer;
 use params::answers::PacketAnswer;
 use params::answers::PayloadAnswer;
 use params::answers::StatusAnswer;
+use replies::airtime_values;
 use replies::answers;
 use replies::link_values;
 use replies::modulation_values;
@@ -88,5 +90,13 @@ pub fn link(a: LinkAnswer, used: usize, out: &mut [u8]) -> Told
     ensures { λ r. ⌜ r .at ≤ 230 ⌝ }
 {
     let at = link_values::put_link(a, out, 0);
+    Told { at, used }
+}
+
+pub fn airtime(a: AirtimeAnswer, totals: &[u64; 10], used: usize, out: &mut [u8]) -> Told
+    requires { ⌜ 230 ≤ length (now out) ⌝ }
+    ensures { λ r. ⌜ r .at ≤ 230 ⌝ }
+{
+    let at = airtime_values::put_airtime(a, totals, out, 0);
     Told { at, used }
 }

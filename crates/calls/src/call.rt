@@ -74,6 +74,16 @@ fn act_on_registers(
     }
 }
 
+// The call that is lent a text alone.
+fn report(text: &[u8], used: usize, out: &mut [u8]) -> Told
+    requires { ⌜ 230 ≤ length (now out) ⌝ }
+    ensures { λ r. ⌜ r .at ≤ 230 ⌝ }
+{
+    let mut totals = [0u64; 10];
+    let a = time_on_air::airtime(text, &mut totals);
+    answers::airtime(a, &totals, used, out)
+}
+
 // What is lent is handed on, and the answer told at the start of out.
 fn act(
     o: Operation,
@@ -95,6 +105,7 @@ fn act(
         Operation::GetRxPayload => {
             answers::received(sx127x::get_rx_payload(image, fifo, log, used, buffer), out)
         }
+        Operation::Airtime => report(buffer, used, out),
         _ => {
             let args = field(line, TAB, 5);
             act_on_registers(o, args, board(line), used, image, log, out)

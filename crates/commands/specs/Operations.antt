@@ -5,7 +5,7 @@ use Prim.Native.Nat.{ℕ, suc}
 use Rattle.text.specs.Fields.{fieldAt}
 use Rattle.text.specs.Words.{ascii, alike}
 use Rattle.commands.specs.declared.Operation.{Operation}
-use Rattle.commands.specs.declared.Operation.the-variants.{InitLora, CreateModulationParams, CreatePacketParams, Reset, SetStandby, SetSleep, SetTxRxBufferBaseAddress, SetTxPowerAndRampTime, SetModulationParams, SetPacketParams, SetChannel, SetPayload, DoTx, DoRx, GetRxPayload, GetRxPacketStatus, DoCad, SetIrqParams, ProcessIrqEvent, SetTxContinuousWaveMode, Program, ReadLink}
+use Rattle.commands.specs.declared.Operation.the-variants.{InitLora, CreateModulationParams, CreatePacketParams, Reset, SetStandby, SetSleep, SetTxRxBufferBaseAddress, SetTxPowerAndRampTime, SetModulationParams, SetPacketParams, SetChannel, SetPayload, DoTx, DoRx, GetRxPayload, GetRxPacketStatus, DoCad, SetIrqParams, ProcessIrqEvent, SetTxContinuousWaveMode, Program, ReadLink, Airtime}
 use Rattle.commands.specs.declared.Named.{Named}
 use Rattle.commands.specs.declared.Named.the-variants.{Known, Unknown}
 
@@ -48,6 +48,7 @@ name ProcessIrqEvent = ascii "process_irq_event"
 name SetTxContinuousWaveMode = ascii "set_tx_continuous_wave_mode"
 name Program = ascii "program"
 name ReadLink = ascii "read_link"
+name Airtime = ascii "airtime"
 
 abbrev pub arguments : Operation → List ℕ
 arguments InitLora = ascii "public"
@@ -72,6 +73,7 @@ arguments ProcessIrqEvent = ascii "mode rxmode clear"
 arguments SetTxContinuousWaveMode = ascii "-"
 arguments Program = ascii "public sf bw cr hz preamble implicit crc iq power"
 arguments ReadLink = ascii "-"
+arguments Airtime = ascii "-"
 
 abbrev pub kinds : Operation → List ℕ
 kinds InitLora = byte ∷ []
@@ -96,11 +98,12 @@ kinds ProcessIrqEvent = byte ∷ byte ∷ byte ∷ []
 kinds SetTxContinuousWaveMode = []
 kinds Program = byte ∷ byte ∷ byte ∷ byte ∷ hertz ∷ word ∷ byte ∷ byte ∷ byte ∷ power ∷ []
 kinds ReadLink = []
+kinds Airtime = []
 
 -- in the order in which their words are listed
 unfoldable pub operations : List Operation
 operations =
-    Reset ∷ SetStandby ∷ SetSleep ∷ DoTx ∷ DoRx ∷ DoCad ∷ SetTxContinuousWaveMode ∷ CreatePacketParams ∷ SetPacketParams ∷ SetPayload ∷ GetRxPayload ∷ GetRxPacketStatus ∷ SetIrqParams ∷ ProcessIrqEvent ∷ InitLora ∷ SetTxRxBufferBaseAddress ∷ SetTxPowerAndRampTime ∷ CreateModulationParams ∷ SetModulationParams ∷ SetChannel ∷ Program ∷ ReadLink ∷ []
+    Reset ∷ SetStandby ∷ SetSleep ∷ DoTx ∷ DoRx ∷ DoCad ∷ SetTxContinuousWaveMode ∷ CreatePacketParams ∷ SetPacketParams ∷ SetPayload ∷ GetRxPayload ∷ GetRxPacketStatus ∷ SetIrqParams ∷ ProcessIrqEvent ∷ InitLora ∷ SetTxRxBufferBaseAddress ∷ SetTxPowerAndRampTime ∷ CreateModulationParams ∷ SetModulationParams ∷ SetChannel ∷ Program ∷ ReadLink ∷ Airtime ∷ []
 
 -- the first of some operations whose word this is
 abbrev pub among : (Operation → List ℕ) → List ℕ → List Operation → Named

@@ -2,7 +2,7 @@
 -- `commands`; a row is only where it stands.
 use Prim.Native.Nat.{ℕ}
 use Rattle.commands.specs.declared.Operation.{Operation}
-use Rattle.commands.specs.declared.Operation.the-variants.{InitLora, CreateModulationParams, CreatePacketParams, Reset, SetStandby, SetSleep, SetTxRxBufferBaseAddress, SetTxPowerAndRampTime, SetModulationParams, SetPacketParams, SetChannel, SetPayload, DoTx, DoRx, GetRxPayload, GetRxPacketStatus, DoCad, SetIrqParams, ProcessIrqEvent, SetTxContinuousWaveMode, Program, ReadLink}
+use Rattle.commands.specs.declared.Operation.the-variants.{InitLora, CreateModulationParams, CreatePacketParams, Reset, SetStandby, SetSleep, SetTxRxBufferBaseAddress, SetTxPowerAndRampTime, SetModulationParams, SetPacketParams, SetChannel, SetPayload, DoTx, DoRx, GetRxPayload, GetRxPacketStatus, DoCad, SetIrqParams, ProcessIrqEvent, SetTxContinuousWaveMode, Program, ReadLink, Airtime}
 
 abbrev pub row : Operation → ℕ
 row InitLora = 1
@@ -27,3 +27,4 @@ row ProcessIrqEvent = 11
 row SetTxContinuousWaveMode = 0
 row Program = 12
 row ReadLink = 0
+row Airtime = 0

@@ -33,6 +33,7 @@ pub enum Operation {
     SetTxContinuousWaveMode,
     Program,
     ReadLink,
+    Airtime,
 }
 
 pub enum Named {
@@ -40,7 +41,7 @@ pub enum Named {
     Unknown,
 }
 
-const OPERATIONS: [Operation; 22] = [
+const OPERATIONS: [Operation; 23] = [
     Operation::Reset,
     Operation::SetStandby,
     Operation::SetSleep,
@@ -63,10 +64,11 @@ const OPERATIONS: [Operation; 22] = [
     Operation::SetChannel,
     Operation::Program,
     Operation::ReadLink,
+    Operation::Airtime,
 ];
 
 fn operation_at(k: usize) -> Operation
-    requires { ⌜ k < 22 ⌝ }
+    requires { ⌜ k < 23 ⌝ }
     ensures { λ r. ⌜ r ≡ getD operations k Operation.InitLora ⌝ }
 {
     OPERATIONS[k]
@@ -77,7 +79,7 @@ pub fn found(w: &[u8], words: &[u8]) -> Named
     ensures { λ r. ⌜ r ≡ foundFrom (now (w .entry)) (now (words .entry)) 0 operations ⌝ }
 {
     let mut k = 0;
-    while k < 22 {
+    while k < 23 {
         if same(w, field(words, b' ', k)) {
             return Named::Known(operation_at(k));
         }
@@ -91,6 +93,6 @@ pub fn operation_named(w: &[u8]) -> Named
 {
     found(
         w,
-        b"reset set_standby set_sleep do_tx do_rx do_cad set_tx_continuous_wave_mode create_packet_params set_packet_params set_payload get_rx_payload get_rx_packet_status set_irq_params process_irq_event init_lora set_tx_rx_buffer_base_address set_tx_power_and_ramp_time create_modulation_params set_modulation_params set_channel program read_link",
+        b"reset set_standby set_sleep do_tx do_rx do_cad set_tx_continuous_wave_mode create_packet_params set_packet_params set_payload get_rx_payload get_rx_packet_status set_irq_params process_irq_event init_lora set_tx_rx_buffer_base_address set_tx_power_and_ramp_time create_modulation_params set_modulation_params set_channel program read_link airtime",
     )
 }

@@ -64,6 +64,7 @@ pub fn row_of(o: Operation) -> usize
         Operation::SetTxContinuousWaveMode => 0,
         Operation::Program => 12,
         Operation::ReadLink => 0,
+        Operation::Airtime => 0,
     }
 }
 

@@ -8,7 +8,7 @@ use lib.Dec.{eqb}
 use lib.ListN.{getD}
 use lib.IntN.{ℤ, pos, natAbs}
 use Rattle.params.specs.declared.mod_params.RadioError.{RadioError}
-use Rattle.params.specs.declared.mod_params.RadioError.the-variants.{SPI, Reset, RfSwitchRx, RfSwitchTx, Busy, Irq, DIO1, InvalidConfiguration, InvalidRadioMode, OpError, InvalidBaseAddress, PayloadSizeUnexpected, PayloadSizeMismatch, UnavailableSpreadingFactor, UnavailableBandwidth, InvalidBandwidthForFrequency, InvalidSF6ExplicitHeaderRequest, InvalidOutputPowerForFrequency, TransmitTimeout, ReceiveTimeout, DutyCycleUnsupported, RngUnsupported, FrequencyOutOfRange, LogFull, CarrierUnsupported, BadImage, NotALink}
+use Rattle.params.specs.declared.mod_params.RadioError.the-variants.{SPI, Reset, RfSwitchRx, RfSwitchTx, Busy, Irq, DIO1, InvalidConfiguration, InvalidRadioMode, OpError, InvalidBaseAddress, PayloadSizeUnexpected, PayloadSizeMismatch, UnavailableSpreadingFactor, UnavailableBandwidth, InvalidBandwidthForFrequency, InvalidSF6ExplicitHeaderRequest, InvalidOutputPowerForFrequency, TransmitTimeout, ReceiveTimeout, DutyCycleUnsupported, RngUnsupported, FrequencyOutOfRange, LogFull, CarrierUnsupported, BadImage, NotALink, BadLine}
 use Rattle.params.specs.declared.units.Hertz.{Hertz}
 use Rattle.params.specs.declared.answers.Answer.{Answer}
 use Rattle.params.specs.declared.answers.Answer.the-variants as plain
@@ -64,7 +64,8 @@ errorOf n vs =
     ∷ LogFull
     ∷ CarrierUnsupported
     ∷ BadImage
-    ∷ NotALink ∷ [])
+    ∷ NotALink
+    ∷ BadLine ∷ [])
     (n - 1) SPI
 
 -- an error is had back from what it tells, and its number is not 0
@@ -96,6 +97,7 @@ error-back LogFull = (refl, refl)
 error-back CarrierUnsupported = (refl, refl)
 error-back BadImage = (refl, refl)
 error-back NotALink = (refl, refl)
+error-back BadLine = (refl, refl)
 
 -- ---- answers
 

@@ -20,7 +20,10 @@ use Rattle.params.specs.declared.answers.IrqAnswer.{IrqAnswer}
 use Rattle.params.specs.declared.answers.IrqAnswer.the-variants as irq
 use Rattle.params.specs.declared.answers.LinkAnswer.{LinkAnswer}
 use Rattle.params.specs.declared.answers.LinkAnswer.the-variants as link
-use Rattle.params.specs.Errors.{Told, told, refusal}
+use Rattle.params.specs.declared.answers.AirtimeAnswer.{AirtimeAnswer}
+use Rattle.params.specs.declared.answers.AirtimeAnswer.the-variants as airtime
+use Rattle.params.specs.Errors.{Told, told, plain as values, refusal, numberOf}
+use Rattle.params.specs.LineFaults.{errorOf}
 
 -- the values of the records that calls answer, in the order of their fields
 abbrev pub modulationValues : ModulationParams → List ℤ
@@ -94,3 +97,8 @@ tellsPacket (packet.Refused e) = refusal e
 abbrev pub tellsLink : LinkAnswer → Told
 tellsLink (link.Found l) = told 0 (linkValues l)
 tellsLink (link.Refused e) = refusal e
+
+-- the totals that are lent, as the call leaves them, or the number of the first bad line
+abbrev pub tellsAirtime : AirtimeAnswer → List ℕ → Told
+tellsAirtime airtime.Totals totals = told 0 (values totals)
+tellsAirtime (airtime.BadLine f line) totals = told (numberOf (errorOf f)) (pos line ∷ [])

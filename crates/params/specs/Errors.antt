@@ -3,7 +3,7 @@ use mathlib.Core.List.{List, [], _∷_}
 use Prim.Native.Nat.{ℕ}
 use lib.IntN.{ℤ, pos}
 use Rattle.params.specs.declared.mod_params.RadioError.{RadioError}
-use Rattle.params.specs.declared.mod_params.RadioError.the-variants.{SPI, Reset, RfSwitchRx, RfSwitchTx, Busy, Irq, DIO1, InvalidConfiguration, InvalidRadioMode, OpError, InvalidBaseAddress, PayloadSizeUnexpected, PayloadSizeMismatch, UnavailableSpreadingFactor, UnavailableBandwidth, InvalidBandwidthForFrequency, InvalidSF6ExplicitHeaderRequest, InvalidOutputPowerForFrequency, TransmitTimeout, ReceiveTimeout, DutyCycleUnsupported, RngUnsupported, FrequencyOutOfRange, LogFull, CarrierUnsupported, BadImage, NotALink}
+use Rattle.params.specs.declared.mod_params.RadioError.the-variants.{SPI, Reset, RfSwitchRx, RfSwitchTx, Busy, Irq, DIO1, InvalidConfiguration, InvalidRadioMode, OpError, InvalidBaseAddress, PayloadSizeUnexpected, PayloadSizeMismatch, UnavailableSpreadingFactor, UnavailableBandwidth, InvalidBandwidthForFrequency, InvalidSF6ExplicitHeaderRequest, InvalidOutputPowerForFrequency, TransmitTimeout, ReceiveTimeout, DutyCycleUnsupported, RngUnsupported, FrequencyOutOfRange, LogFull, CarrierUnsupported, BadImage, NotALink, BadLine}
 use Rattle.params.specs.declared.mod_params.Verdict.{Verdict}
 use Rattle.params.specs.declared.mod_params.Verdict.the-variants.{Clear, Refused}
 
@@ -14,6 +14,11 @@ pub record Told : Type 0 where
 
 abbrev pub told : ℕ → List ℤ → Told
 told n vs = record { number = n; values = vs }
+
+-- values that are never below zero
+abbrev pub plain : List ℕ → List ℤ
+plain [] = []
+plain (n ∷ ns) = pos n ∷ plain ns
 
 abbrev pub numberOf : RadioError → ℕ
 numberOf SPI = 1
@@ -43,6 +48,7 @@ numberOf LogFull = 24
 numberOf CarrierUnsupported = 25
 numberOf BadImage = 26
 numberOf NotALink = 27
+numberOf BadLine = 28
 
 -- 10 its code, 11 both bases, 12 the length, 13 the packet's bytes and the buffer's; the others none
 abbrev pub valuesOf : RadioError → List ℤ
@@ -73,6 +79,7 @@ valuesOf LogFull = []
 valuesOf CarrierUnsupported = []
 valuesOf BadImage = []
 valuesOf NotALink = []
+valuesOf BadLine = []
 
 abbrev pub refusal : RadioError → Told
 refusal e = told (numberOf e) (valuesOf e)

@@ -1,4 +1,5 @@
 pub mod Errors
+pub mod LineFaults
 pub mod Answers
 pub mod Addresses
 pub mod Values

@@ -1,4 +1,5 @@
 // What calls answer. A call that appends to a log tells the bytes that are used afterwards, whatever its answer.
+use crate::line_faults::LineFault;
 use crate::mod_params::Link;
 use crate::mod_params::ModulationParams;
 use crate::mod_params::PacketParams;
@@ -47,4 +48,10 @@ pub enum IrqAnswer {
 pub enum LinkAnswer {
     Found(Link),
     Refused(RadioError),
+}
+
+// `airtime`: the totals stand in what was lent, or the first bad line, with its number from 1, is why they do not.
+pub enum AirtimeAnswer {
+    Totals,
+    BadLine(LineFault, u64),
 }

@@ -2,6 +2,7 @@
 pub mod answers;
 pub mod board;
 pub mod irq_masks;
+pub mod line_faults;
 pub mod mod_params;
 pub mod radio_kind_params;
 pub mod units;

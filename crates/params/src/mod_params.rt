@@ -32,6 +32,7 @@ pub enum RadioError {
     CarrierUnsupported,
     BadImage,
     NotALink,
+    BadLine,
 }
 
 impl RadioError {
@@ -67,6 +68,7 @@ impl RadioError {
             RadioError::CarrierUnsupported => 25,
             RadioError::BadImage => 26,
             RadioError::NotALink => 27,
+            RadioError::BadLine => 28,
         }
     }
 }

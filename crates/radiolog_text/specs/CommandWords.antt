@@ -1,9 +1,10 @@
 -- Short words for the operations.
+use mathlib.Core.Bool.{cond}
 use mathlib.Core.List.{List}
 use Prim.Native.Nat.{ℕ}
-use Rattle.text.specs.Words.{ascii}
+use Rattle.text.specs.Words.{ascii, alike}
 use Rattle.commands.specs.declared.Operation.{Operation}
-use Rattle.commands.specs.declared.Operation.the-variants.{InitLora, CreateModulationParams, CreatePacketParams, Reset, SetStandby, SetSleep, SetTxRxBufferBaseAddress, SetTxPowerAndRampTime, SetModulationParams, SetPacketParams, SetChannel, SetPayload, DoTx, DoRx, GetRxPayload, GetRxPacketStatus, DoCad, SetIrqParams, ProcessIrqEvent, SetTxContinuousWaveMode, Program, ReadLink}
+use Rattle.commands.specs.declared.Operation.the-variants.{InitLora, CreateModulationParams, CreatePacketParams, Reset, SetStandby, SetSleep, SetTxRxBufferBaseAddress, SetTxPowerAndRampTime, SetModulationParams, SetPacketParams, SetChannel, SetPayload, DoTx, DoRx, GetRxPayload, GetRxPacketStatus, DoCad, SetIrqParams, ProcessIrqEvent, SetTxContinuousWaveMode, Program, ReadLink, Airtime}
 use Rattle.commands.specs.declared.Named.{Named}
 use Rattle.commands.specs.declared.Named.the-variants.{Known, Unknown}
 use Rattle.commands.specs.Operations.{operations, among, operationOf}
@@ -31,12 +32,13 @@ word ProcessIrqEvent = ascii "event"
 word SetTxContinuousWaveMode = ascii "carrier"
 word Program = ascii "program"
 word ReadLink = ascii "read"
+word Airtime = ascii "airtime"
 
 -- one name, or where it names nothing the other
 abbrev pub otherwise : Named → Named → Named
 otherwise (Known o) n = Known o
 otherwise Unknown n = n
 
--- by its word, or else by its own name
+-- by its word, or else by its own name; of airtime nothing goes over the bus, so it is no command
 unfoldable pub commandOf : List ℕ → Named
-commandOf w = otherwise (among word w operations) (operationOf w)
+commandOf w = cond (alike w (word Airtime)) Unknown (otherwise (among word w operations) (operationOf w))

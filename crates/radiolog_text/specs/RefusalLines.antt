@@ -1,40 +1,11 @@
--- The errors' names, and the line that tells a refusal.
+-- The line that tells a refusal.
 use mathlib.Core.List.{List, _++_}
 use Prim.Native.Nat.{ℕ}
 use Rattle.params.specs.declared.mod_params.RadioError.{RadioError}
-use Rattle.params.specs.declared.mod_params.RadioError.the-variants.{SPI, Reset, RfSwitchRx, RfSwitchTx, Busy, Irq, DIO1, InvalidConfiguration, InvalidRadioMode, OpError, InvalidBaseAddress, PayloadSizeUnexpected, PayloadSizeMismatch, UnavailableSpreadingFactor, UnavailableBandwidth, InvalidBandwidthForFrequency, InvalidSF6ExplicitHeaderRequest, InvalidOutputPowerForFrequency, TransmitTimeout, ReceiveTimeout, DutyCycleUnsupported, RngUnsupported, FrequencyOutOfRange, LogFull, CarrierUnsupported, BadImage, NotALink}
 use Rattle.params.specs.Errors.{refusal}
 use Rattle.text.specs.Words.{ascii}
 use Rattle.replies.specs.Answers.{answerText}
-
-abbrev pub nameOf : RadioError → List ℕ
-nameOf SPI = ascii "SPI"
-nameOf Reset = ascii "Reset"
-nameOf RfSwitchRx = ascii "RfSwitchRx"
-nameOf RfSwitchTx = ascii "RfSwitchTx"
-nameOf Busy = ascii "Busy"
-nameOf Irq = ascii "Irq"
-nameOf DIO1 = ascii "DIO1"
-nameOf InvalidConfiguration = ascii "InvalidConfiguration"
-nameOf InvalidRadioMode = ascii "InvalidRadioMode"
-nameOf (OpError code) = ascii "OpError"
-nameOf (InvalidBaseAddress tx rx) = ascii "InvalidBaseAddress"
-nameOf (PayloadSizeUnexpected n) = ascii "PayloadSizeUnexpected"
-nameOf (PayloadSizeMismatch n room) = ascii "PayloadSizeMismatch"
-nameOf UnavailableSpreadingFactor = ascii "UnavailableSpreadingFactor"
-nameOf UnavailableBandwidth = ascii "UnavailableBandwidth"
-nameOf InvalidBandwidthForFrequency = ascii "InvalidBandwidthForFrequency"
-nameOf InvalidSF6ExplicitHeaderRequest = ascii "InvalidSF6ExplicitHeaderRequest"
-nameOf InvalidOutputPowerForFrequency = ascii "InvalidOutputPowerForFrequency"
-nameOf TransmitTimeout = ascii "TransmitTimeout"
-nameOf ReceiveTimeout = ascii "ReceiveTimeout"
-nameOf DutyCycleUnsupported = ascii "DutyCycleUnsupported"
-nameOf RngUnsupported = ascii "RngUnsupported"
-nameOf FrequencyOutOfRange = ascii "FrequencyOutOfRange"
-nameOf LogFull = ascii "LogFull"
-nameOf CarrierUnsupported = ascii "CarrierUnsupported"
-nameOf BadImage = ascii "BadImage"
-nameOf NotALink = ascii "NotALink"
+use Rattle.replies.specs.Names.{nameOf}
 
 -- an exclamation mark, the number with its values, and the name, parted by tabs
 abbrev pub refusedText : RadioError → List ℕ

@@ -2,22 +2,11 @@
 ghost use Prim.Native.Nat.{_+_, _≤_};
 ghost use lib.ListN.{length};
 ghost use Rattle.text.specs.Text.{Appended};
-ghost use Rattle.radiolog_text.specs.RefusalLines.{nameOf, refusedText};
+ghost use Rattle.radiolog_text.specs.RefusalLines.{refusedText};
 use params::mod_params::RadioError;
+use replies::names::put_name;
 use replies::put_refusal;
 use text::printing::put;
-use text::reading::field;
-
-pub fn put_name(e: RadioError, out: &mut [u8], at: usize) -> usize
-    requires { ⌜ at + 31 ≤ length (now out) ⌝ }
-    ensures { λ r. ⌜ Appended (nameOf e) at (now (out .entry)) r (now (out .exit)) ⌝ }
-    ensures { λ r. ⌜ r ≤ at + 31 ⌝ }
-{
-    // at each error's number its name
-    let table =
-        b" SPI Reset RfSwitchRx RfSwitchTx Busy Irq DIO1 InvalidConfiguration InvalidRadioMode OpError InvalidBaseAddress PayloadSizeUnexpected PayloadSizeMismatch UnavailableSpreadingFactor UnavailableBandwidth InvalidBandwidthForFrequency InvalidSF6ExplicitHeaderRequest InvalidOutputPowerForFrequency TransmitTimeout ReceiveTimeout DutyCycleUnsupported RngUnsupported FrequencyOutOfRange LogFull CarrierUnsupported BadImage NotALink";
-    put(field(table, b' ', e.number() as usize), out, at)
-}
 
 pub fn put_refused(e: RadioError, out: &mut [u8], at: usize) -> usize
     requires { ⌜ at + 97 ≤ length (now out) ⌝ }

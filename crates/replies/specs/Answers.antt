@@ -1,14 +1,9 @@
 -- An answer as text: its number and its values.
 use mathlib.Core.List.{List, [], _∷_, _++_}
 use Prim.Native.Nat.{ℕ}
-use lib.IntN.{ℤ, pos}
+use lib.IntN.{ℤ}
 use Rattle.params.specs.Errors.{Told}
 use Rattle.text.specs.Numbers.{decimal, signed}
-
--- values that have no sign
-abbrev pub plain : List ℕ → List ℤ
-plain [] = []
-plain (n ∷ ns) = pos n ∷ plain ns
 
 -- a space before each value
 abbrev pub valuesText : List ℤ → List ℕ

@@ -2,18 +2,20 @@
 ghost use Prim.Native.Nat.{_+_, _*_, _≤_};
 ghost use mathlib.Core.List.{[], _∷_};
 ghost use lib.ListN.{length};
-ghost use Rattle.params.specs.Errors.{refusal};
+ghost use Rattle.params.specs.Errors.{plain, refusal};
 ghost use Rattle.text.specs.Text.{Appended};
-ghost use Rattle.replies.specs.Answers.{plain, valuesText, answerText};
+ghost use Rattle.replies.specs.Answers.{valuesText, answerText};
 use params::mod_params::RadioError;
 use text::printing::put;
 use text::put_decimals::put_decimal;
 use text::put_decimals::put_signed;
 
+pub mod airtime_values;
 pub mod answers;
 pub mod left;
 pub mod link_values;
 pub mod modulation_values;
+pub mod names;
 pub mod packet_values;
 
 pub fn put_values(vs: &[u64], out: &mut [u8], at: usize) -> usize

@@ -1,17 +1,19 @@
 // What is told of each kind of answer. A call that is lent no log has none of its bytes used: 0.
 ghost use mathlib.Core.Path.{_≡_};
 ghost use lib.IntN.{pos};
-ghost use Rattle.params.specs.Answers.{tellsDone, usedDone, tellsPayload, usedPayload, tellsStatus, usedStatus, tellsIrq, usedIrq, tellsModulation, tellsPacket, tellsLink, flagValue};
+ghost use Rattle.params.specs.Answers.{tellsDone, usedDone, tellsPayload, usedPayload, tellsStatus, usedStatus, tellsIrq, usedIrq, tellsModulation, tellsPacket, tellsLink, tellsAirtime, flagValue};
 ghost use Rattle.results.specs.Word.{word};
 ghost use Rattle.results.specs.Results.{Tells};
 use crate::put_five;
 use crate::put_five_more;
+use crate::put_list;
 use crate::put_one;
 use crate::put_two;
 use crate::refused;
 use crate::words::put;
 use crate::words::word;
 use crate::words::word_16;
+use params::answers::AirtimeAnswer;
 use params::answers::Answer;
 use params::answers::IrqAnswer;
 use params::answers::LinkAnswer;
@@ -151,5 +153,22 @@ pub fn link(results: &mut [u64], answer: LinkAnswer) -> u8
             0
         }
         LinkAnswer::Refused(e) => refused(results, 0, e),
+    }
+}
+
+// The totals are those that the answer speaks of.
+pub fn airtime(results: &mut [u64], answer: AirtimeAnswer, totals: &[u64; 10]) -> u8
+    ensures { λ r. ⌜ Tells (tellsAirtime answer (now (totals .entry))) 0 (now (results .entry)) (pos r) (now (results .exit)) ⌝ }
+{
+    match answer {
+        AirtimeAnswer::Totals => {
+            put(results, 0, 0);
+            put_list(results, totals);
+            0
+        }
+        AirtimeAnswer::BadLine(f, line) => {
+            put_one(results, 0, line);
+            f.error().number()
+        }
     }
 }

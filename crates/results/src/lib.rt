@@ -29,15 +29,15 @@ fn put_values(results: &mut [u64], e: RadioError)
     }
 }
 
-// Places 1 to 5.
-fn put_first(results: &mut [u64], v1: u64, v2: u64, v3: u64, v4: u64, v5: u64)
-    ensures { λ _. ⌜ now (results .exit) ≡ placed 1 (v1 ∷ v2 ∷ v3 ∷ v4 ∷ v5 ∷ []) (now (results .entry)) ⌝ }
+// From place 1 on.
+pub fn put_list(results: &mut [u64], values: &[u64])
+    ensures { λ _. ⌜ now (results .exit) ≡ placed 1 (now (values .entry)) (now (results .entry)) ⌝ }
 {
-    put(results, 1, v1);
-    put(results, 2, v2);
-    put(results, 3, v3);
-    put(results, 4, v4);
-    put(results, 5, v5);
+    let mut i = 0;
+    while i < values.len() {
+        put(results, i + 1, values[i]);
+        i += 1;
+    }
 }
 
 // What no log is lent to has 0 bytes of it used; then five values.
@@ -45,7 +45,7 @@ pub fn put_five(results: &mut [u64], v1: u64, v2: u64, v3: u64, v4: u64, v5: u64
     ensures { λ _. ⌜ now (results .exit) ≡ placed 0 (0 ∷ v1 ∷ v2 ∷ v3 ∷ v4 ∷ v5 ∷ []) (now (results .entry)) ⌝ }
 {
     put(results, 0, 0);
-    put_first(results, v1, v2, v3, v4, v5);
+    put_list(results, &[v1, v2, v3, v4, v5]);
 }
 
 // Places 6 to 10.

@@ -1,7 +1,8 @@
 //! How long calls take: the Rust over its mock and the static library, on the same inputs, in turns.
 //!
-//! Both keep registers, FIFO and log from call to call and start each call with an empty log. The reader has no Rust side:
-//! the oracle's own stands there, which programs its guess once by the Rust over the mock.
+//! Both keep registers, FIFO and log from call to call and start each call with an empty log. The reader and a depot's
+//! airtime have no Rust side: the oracle's own stand there. Its reader programs its guess once by the Rust over the mock.
+use oracle::airtime::airtime;
 use oracle::chip::{Chip, FIFO, IMAGE};
 use oracle::driver::{self, Question};
 use oracle::linked;
@@ -41,10 +42,18 @@ impl Input {
     }
 
     fn by_the_rust(&mut self) {
-        if self.call.operation == Operation::ReadLink {
-            black_box(read_link(self.call.board, &self.chip.get_mut().image));
-            return;
+        match self.call.operation {
+            Operation::ReadLink => {
+                black_box(read_link(self.call.board, &self.chip.get_mut().image));
+            }
+            Operation::Airtime => {
+                let _ = black_box(airtime(&self.buffer));
+            }
+            _ => self.asked(),
         }
+    }
+
+    fn asked(&mut self) {
         self.chip.get_mut().rewind();
         let Call { board, operation, arguments, .. } = &self.call;
         let question = Question { board: *board, operation: *operation, arguments };
@@ -110,7 +119,11 @@ fn main() {
     println!("{:32}{:>10}{:>10}{:>10}", "nanoseconds a call", "Rust", "library", "ratio");
     let mut maker = Maker::new(1);
     for operation in Operation::all() {
-        let name = if operation == Operation::ReadLink { "read_link (the oracle's reader)" } else { operation.name() };
+        let name = match operation {
+            Operation::ReadLink => "read_link (the oracle's reader)",
+            Operation::Airtime => "airtime (the oracle's sums)",
+            _ => operation.name(),
+        };
         let calls = inputs(&mut maker, operation, None);
         row(name, calls);
     }

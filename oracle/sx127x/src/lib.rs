@@ -133,4 +133,5 @@ calls! {
         iq_inverted: u8, power: i32;
     );
     sx127x_read_link as read_link(image: shared; board: u8;);
+    sx127x_airtime as airtime(text: shared;;);
 }

@@ -9,7 +9,8 @@ use denote.Ref.{now}
 use lib.ListN.{length, drop, drop-of-length-le}
 use Rattle.text.specs.Text.{Appended}
 use Rattle.text.proofs.printing.Appending.{then, same, nothing}
-use Rattle.replies.specs.Answers.{plain, valuesText}
+use Rattle.params.specs.Errors.{plain}
+use Rattle.replies.specs.Answers.{valuesText}
 use Rattle.replies.proofs.Values.{value-more}
 use Rattle.replies.proofs.put_values.Statement.{statement}
 use Rattle.replies.proofs.put_values.Tie as tie

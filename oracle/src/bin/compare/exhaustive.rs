@@ -33,9 +33,10 @@ impl Exhaustive<'_> {
         self.lengths();
         self.commands();
         self.reader();
+        self.depots();
     }
 
-    fn offer(&mut self) {
+    pub fn offer(&mut self) {
         self.report.offer(&self.maker.call);
     }
 
@@ -44,7 +45,7 @@ impl Exhaustive<'_> {
         self.offer();
     }
 
-    fn of_variant(variant: Variant) -> Board {
+    pub fn of_variant(variant: Variant) -> Board {
         Board { variant, tcxo_used: false, tx_boost: false, rx_boost: false }
     }
 
@@ -315,7 +316,7 @@ impl Exhaustive<'_> {
     }
 }
 
-fn each_short(variant: Variant) -> impl Iterator<Item = (Variant, i128)> {
+pub fn each_short(variant: Variant) -> impl Iterator<Item = (Variant, i128)> {
     (0..=u16::MAX).map(move |number| (variant, number as i128))
 }
 

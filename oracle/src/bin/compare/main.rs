@@ -1,4 +1,5 @@
 //! The comparison at scale: generated calls, each run on the oracle and on the library, and what differed.
+mod depots;
 mod exhaustive;
 mod report;
 

@@ -1,9 +1,12 @@
 //! What becomes of the calls: each is run on both sides and counted, or written out as a line.
+use oracle::text::holds;
 use oracle::{library, print, print_call, run_into, Call, Operation, Outcome, Source};
 use std::io::{self, BufWriter, Stdout, Write};
 
-/// How many differences of an operation are told in full.
+/// How many differences of an operation are told.
 const TOLD: u64 = 3;
+/// How many characters of a line are told: all but of a file that no line holds.
+const WIDTH: usize = 16_384;
 
 #[derive(Clone, Copy, Default)]
 struct Count {
@@ -43,7 +46,10 @@ impl Report {
             return;
         }
         match &mut self.lines {
-            Some(lines) => writeln!(lines, "{}", print_call(call)).expect("standard output takes the calls"),
+            Some(lines) if holds(call) => {
+                writeln!(lines, "{}", print_call(call)).expect("standard output takes the calls")
+            }
+            Some(_) => {}
             None => self.compare(call),
         }
     }
@@ -63,9 +69,9 @@ impl Report {
     }
 
     fn note(&mut self, call: &Call) {
-        let (expected, found) = (print(&self.expected), print(&self.found));
+        let lines = [print_call(call), print(&self.expected), print(&self.found)];
+        let [call, expected, found] = lines.map(|line| line.chars().take(WIDTH).collect::<String>());
         let source = &self.expected.source;
-        let call = print_call(call);
         self.differences.push(format!("call:    {call}\noracle:  {expected}\t({source:?})\nlibrary: {found}"));
     }
 

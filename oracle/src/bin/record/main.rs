@@ -1,4 +1,5 @@
 //! Writes the recorded list: `stdin`, the calls, and `stdout`, the oracle's outcomes, into the folder that is named.
+mod depots;
 mod list;
 mod no_calls;
 mod sections;
@@ -29,6 +30,7 @@ fn list() -> Vec<Vec<u8>> {
         sections::orders,
         sections::links,
         sections::unlent,
+        depots::all,
         sections::any,
         no_calls::all,
     ];

@@ -95,6 +95,9 @@ fn arguments(list: &mut List) {
     for numbers in ["18446744073709551615 0", "18446744073709551616 0", "0 18446744073709551615", "0 -1"] {
         add(list, &fields("set_tx_rx_buffer_base_address", numbers));
     }
+    for numbers in ["-", "0", "- ", " -", "--", "7 7 1"] {
+        add(list, &fields("airtime", numbers));
+    }
 }
 
 fn slices(list: &mut List) {

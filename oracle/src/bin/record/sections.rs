@@ -3,8 +3,13 @@ use crate::list::{board, pairs, plain, List, VARIANTS};
 use oracle::maker::{Image, BASES, FREQUENCIES, PREAMBLES, READER, SYMBOLS};
 use oracle::{Board, Operation, Variant};
 
+/// All but `airtime`, which knows no radio and is a part of its own.
+fn of_a_radio() -> Vec<Operation> {
+    Operation::all().filter(|operation| *operation != Operation::Airtime).collect()
+}
+
 pub fn everything(list: &mut List) {
-    for (operation, board) in pairs(&Operation::all().collect::<Vec<_>>(), &Board::all()) {
+    for (operation, board) in pairs(&of_a_radio(), &Board::all()) {
         for image in [Image::Zero, Image::Reset, Image::Random] {
             let image = if operation == Operation::ReadLink && image == Image::Random { Image::Linked } else { image };
             let arguments = list.maker.accepted_arguments(board.variant, operation);
@@ -173,7 +178,7 @@ pub fn bases(list: &mut List) {
 /// images of a wrong length.
 pub fn lent(list: &mut List) {
     let boards = pairs(&VARIANTS, &[false, true]).into_iter().map(|(variant, tcxo)| board(variant, [tcxo, true, true]));
-    for (board, operation) in pairs(&boards.collect::<Vec<_>>(), &Operation::all().collect::<Vec<_>>()) {
+    for (board, operation) in pairs(&boards.collect::<Vec<_>>(), &of_a_radio()) {
         let arguments = list.maker.accepted_arguments(board.variant, operation);
         list.maker.make(board, operation, &arguments, Image::Random);
         let needed = list.maker.needed();

@@ -70,10 +70,14 @@ returns-21 c = rw (c .enum-told21 .given .1)
 returns-22 : tie.Need-returns-22
 returns-22 c = rw (c .enum-told22 .given .1)
 
+returns-23 : tie.Need-returns-23
+returns-23 c = rw (c .enum-told23 .given .1)
+
 pub row-of-spec : {M : Type 1} → statement M
 row-of-spec =
     tie.close
     (tie.spec
+    (λ c. search needs)
     (λ c. search needs)
     (λ c. search needs)
     (λ c. search needs)
@@ -117,4 +121,5 @@ row-of-spec =
     returns-19
     returns-20
     returns-21
-    returns-22)
+    returns-22
+    returns-23)

@@ -1,15 +1,15 @@
--- `radiolog_text::refusal_lines::put_name` meets its contract: the table has the name at the number.
+-- `replies::names::put_name` meets its contract: the table has the name at the number.
 -- Assumes nothing.
 use borrow.Author.Needs.{needs}
 use Rattle.text.proofs.printing.Appending.{same}
-use Rattle.radiolog_text.proofs.refusal_lines.Table.{at-number, short}
-use Rattle.radiolog_text.specs.RefusalLines.{nameOf}
+use Rattle.replies.proofs.names.Table.{at-number, short}
+use Rattle.replies.specs.Names.{nameOf}
 use lib.ListN.{length}
 use denote.Ref.{now}
 use mathlib.Core.Path.{_≡_, ap}
 use native.Mathlib.Omega.{arith}
-use Rattle.radiolog_text.proofs.refusal_lines.put_name.Statement.{statement}
-use Rattle.radiolog_text.proofs.refusal_lines.put_name.Tie as tie
+use Rattle.replies.proofs.names.put_name.Statement.{statement}
+use Rattle.replies.proofs.names.put_name.Tie as tie
 
 from-table : (c : tie.After-field) → now (c .field .result) ≡ nameOf (c .before .before .before .before .before .args .e)
 from-table c = rw (c .field .ensures, c .before .number .ensures) (at-number (c .before .before .before .before .before .args .e))

@@ -7,16 +7,16 @@ use lib.Dec.{lit≤}
 use lib.ListN.{length}
 use Rattle.bytes.specs.Bytes.{indexOf, indexAfter}
 use Rattle.params.specs.declared.mod_params.RadioError.{RadioError}
-use Rattle.params.specs.declared.mod_params.RadioError.the-variants.{SPI, Reset, RfSwitchRx, RfSwitchTx, Busy, Irq, DIO1, InvalidConfiguration, InvalidRadioMode, OpError, InvalidBaseAddress, PayloadSizeUnexpected, PayloadSizeMismatch, UnavailableSpreadingFactor, UnavailableBandwidth, InvalidBandwidthForFrequency, InvalidSF6ExplicitHeaderRequest, InvalidOutputPowerForFrequency, TransmitTimeout, ReceiveTimeout, DutyCycleUnsupported, RngUnsupported, FrequencyOutOfRange, LogFull, CarrierUnsupported, BadImage, NotALink}
+use Rattle.params.specs.declared.mod_params.RadioError.the-variants.{SPI, Reset, RfSwitchRx, RfSwitchTx, Busy, Irq, DIO1, InvalidConfiguration, InvalidRadioMode, OpError, InvalidBaseAddress, PayloadSizeUnexpected, PayloadSizeMismatch, UnavailableSpreadingFactor, UnavailableBandwidth, InvalidBandwidthForFrequency, InvalidSF6ExplicitHeaderRequest, InvalidOutputPowerForFrequency, TransmitTimeout, ReceiveTimeout, DutyCycleUnsupported, RngUnsupported, FrequencyOutOfRange, LogFull, CarrierUnsupported, BadImage, NotALink, BadLine}
 use Rattle.params.specs.Errors.{numberOf}
 use Rattle.text.specs.Fields.{fieldAt}
 use Rattle.text.specs.Words.{ascii}
-use Rattle.radiolog_text.specs.RefusalLines.{nameOf}
+use Rattle.replies.specs.Names.{nameOf}
 
 abbrev pub table : List ℕ
 table =
     ascii
-    " SPI Reset RfSwitchRx RfSwitchTx Busy Irq DIO1 InvalidConfiguration InvalidRadioMode OpError InvalidBaseAddress PayloadSizeUnexpected PayloadSizeMismatch UnavailableSpreadingFactor UnavailableBandwidth InvalidBandwidthForFrequency InvalidSF6ExplicitHeaderRequest InvalidOutputPowerForFrequency TransmitTimeout ReceiveTimeout DutyCycleUnsupported RngUnsupported FrequencyOutOfRange LogFull CarrierUnsupported BadImage NotALink"
+    " SPI Reset RfSwitchRx RfSwitchTx Busy Irq DIO1 InvalidConfiguration InvalidRadioMode OpError InvalidBaseAddress PayloadSizeUnexpected PayloadSizeMismatch UnavailableSpreadingFactor UnavailableBandwidth InvalidBandwidthForFrequency InvalidSF6ExplicitHeaderRequest InvalidOutputPowerForFrequency TransmitTimeout ReceiveTimeout DutyCycleUnsupported RngUnsupported FrequencyOutOfRange LogFull CarrierUnsupported BadImage NotALink BadLine"
 
 pub at-number : (e : RadioError) → fieldAt 32 (numberOf e) table ≡ nameOf e
 unfolding indexOf indexAfter
@@ -47,6 +47,7 @@ at-number LogFull = refl
 at-number CarrierUnsupported = refl
 at-number BadImage = refl
 at-number NotALink = refl
+at-number BadLine = refl
 
 pub short : (e : RadioError) → length (nameOf e) ≤ 31
 short SPI = lit≤ tt
@@ -76,3 +77,4 @@ short LogFull = lit≤ tt
 short CarrierUnsupported = lit≤ tt
 short BadImage = lit≤ tt
 short NotALink = lit≤ tt
+short BadLine = lit≤ tt

@@ -1,0 +1,7 @@
+pub mod Parts
+pub mod Onward
+pub mod Caps
+pub mod Numbers
+pub mod Lines
+pub mod Whole
+pub mod Pieces

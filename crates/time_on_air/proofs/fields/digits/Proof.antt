@@ -1,0 +1,94 @@
+use mathlib.Core.Path.{sym, _∙_}
+use mathlib.Core.Bool.{true, false}
+use native.Mathlib.Omega.{arith}
+use lib.ListN.{getD}
+use Rattle.time_on_air.specs.Onward.{goesOn, more}
+use Rattle.time_on_air.proofs.fields.Digit.{on-taken, on-after, stop-taken, stop-after, end-taken, end-after}
+use mathlib.Core.Path.{_≡_}
+use Prim.Native.Nat.{_≤_, _<_, _-_}
+use lib.ListN.{length, drop}
+use Rattle.time_on_air.specs.Fields.{taken, after}
+use borrow.Author.Needs.{needs}
+use Rattle.time_on_air.proofs.fields.digits.Statement.{statement}
+use Rattle.time_on_air.proofs.fields.digits.Tie as tie
+use Rattle.time_on_air.proofs.fields.digits.Reads as reads
+use Rattle.time_on_air.proofs.fields.digits.Lts as lts
+use Rattle.time_on_air.proofs.fields.goes_on.Reads as goes-on-reads
+use Rattle.time_on_air.proofs.fields.more.Reads as more-reads
+
+abbrev Inv-loop : tie.InvT-loop
+Inv-loop piece from held at₀ h₀ at h = (at ≤ length piece) × (from ≤ at) × (taken h (drop at piece) ≡ taken held (drop from piece)) × (after h (drop at piece) ≡ after held (drop from piece))
+
+abbrev μ-loop : tie.MeasureT-loop
+μ-loop piece from held at₀ h₀ at h = length piece - at
+
+loop-holds : tie.Need-loop-holds Inv-loop μ-loop
+loop-holds c = search needs
+
+shared-slice-read-b : tie.Need-shared-slice-read-b Inv-loop μ-loop
+shared-slice-read-b c = search needs
+
+goes-on-requires : tie.Need-goes-on-requires Inv-loop μ-loop
+goes-on-requires c κs = search needs
+
+more-requires : tie.Need-more-requires Inv-loop μ-loop
+more-requires c κs = sym (c .before .goes-on .ensures) ∙ c .if1 .taken
+
+add-at : tie.Need-add-at Inv-loop μ-loop
+add-at c = search needs
+
+loop-less : tie.Need-loop-less Inv-loop μ-loop
+loop-less c = search needs
+
+loop-again : tie.Need-loop-again Inv-loop μ-loop
+loop-again c =
+    let k = c .before .before .before .before in
+    let i = k .before .loop in
+    let p = k .before .before .before .args .piece .now in
+    let g : goesOn (i .h) (getD p (i .at) 0) ≡ true = sym (c .before .before .goes-on .ensures) ∙ c .before .if1 .taken in
+    let l : i .at < length p = k .loop-test .taken in
+    (omega arith, omega arith, rw (c .more .ensures) (sym (on-taken p (i .at) (i .h) l g) ∙ i .inv .2), rw (c .more .ensures) (sym (on-after p (i .at) (i .h) l g) ∙ i .inv .3))
+
+returns : tie.Need-returns Inv-loop μ-loop
+returns c =
+    let k = c .before .before .before in
+    let i = k .before .loop in
+    let p = k .before .before .before .args .piece .now in
+    let g : goesOn (i .h) (getD p (i .at) 0) ≡ false = sym (c .before .goes-on .ensures) ∙ c .if1 .left in
+    let l : i .at < length p = k .loop-test .taken in
+    record {
+      ahead = i .inv .1;
+      within = i .inv .0;
+      holds = sym (i .inv .2) ∙ stop-taken p (i .at) (i .h) l g;
+      leaves = sym (i .inv .3) ∙ stop-after p (i .at) (i .h) l g;
+      stops = λ m. g;
+    }
+
+returns-2 : tie.Need-returns-2 Inv-loop μ-loop
+returns-2 c =
+    let i = c .before .loop in
+    let p = c .before .before .before .args .piece .now in
+    let l : length p ≤ i .at = c .loop-test .left in
+    record {
+      ahead = i .inv .1;
+      within = i .inv .0;
+      holds = sym (i .inv .2) ∙ end-taken p (i .at) (i .h) l;
+      leaves = sym (i .inv .3) ∙ end-after p (i .at) (i .h) l;
+      stops = λ m. absurd (omega arith);
+    }
+
+pub digits-spec : {M : Type 1} → statement M
+digits-spec =
+    tie.close
+    (tie.spec
+    Inv-loop
+    μ-loop
+    loop-holds
+    shared-slice-read-b
+    goes-on-requires
+    more-requires
+    add-at
+    loop-less
+    loop-again
+    returns
+    returns-2)

@@ -1,0 +1,56 @@
+use native.Mathlib.Numerals.{add-one}
+use Rattle.time_on_air.proofs.fields.Digit.{digit-from}
+use borrow.Author.Tests.{lt-ltb, le-ltb, leb-true}
+use mathlib.Core.Path.{_≡_}
+use Prim.Native.Nat.{suc, _-_}
+use native.Mathlib.Omega.{arith}
+use borrow.Author.Needs.{needs}
+use Rattle.time_on_air.proofs.fields.more.Statement.{statement}
+use Rattle.time_on_air.proofs.fields.more.Tie as tie
+use Rattle.time_on_air.proofs.fields.more.Reads as reads
+use Rattle.time_on_air.proofs.fields.more.Lts as lts
+
+sub-digit : tie.Need-sub-digit
+sub-digit c = digit-from (c .args .held) (c .args .b) (c .pre)
+
+cast-digit : tie.Need-cast-digit
+cast-digit c = search needs
+
+add-result : tie.Need-add-result
+add-result c = search needs
+
+returns : tie.Need-returns
+returns c = rw (c .if1 .taken) (add-one _)
+
+sub-n : tie.Need-sub-n
+sub-n c = search needs
+
+mul-result : tie.Need-mul-result
+mul-result c = search needs
+
+add-result-2 : tie.Need-add-result-2
+add-result-2 c = search needs
+
+add-result-3 : tie.Need-add-result-3
+add-result-3 c = search needs
+
+returns-2 : tie.Need-returns-2
+returns-2 c = let a = c .before .before .args in let e : a .held ≡ suc (a .held - 1) = omega arith in rw e (simp (lt-ltb _ 4294967296 (c .if2 .taken)) (omega arith))
+
+returns-3 : tie.Need-returns-3
+returns-3 c = let a = c .before .before .args in let e : a .held ≡ suc (a .held - 1) = omega arith in rw e (simp (le-ltb _ 4294967296 (c .if2 .left)))
+
+pub more-spec : {M : Type 1} → statement M
+more-spec =
+    tie.close
+    (tie.spec
+    sub-digit
+    cast-digit
+    add-result
+    returns
+    sub-n
+    mul-result
+    add-result-2
+    add-result-3
+    returns-2
+    returns-3)

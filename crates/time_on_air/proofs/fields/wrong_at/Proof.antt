@@ -1,0 +1,15 @@
+use borrow.Author.Tests.{eq-eqb, ne-eqb}
+use borrow.Author.Needs.{needs}
+use Rattle.time_on_air.proofs.fields.wrong_at.Statement.{statement}
+use Rattle.time_on_air.proofs.fields.wrong_at.Tie as tie
+use Rattle.time_on_air.proofs.fields.wrong_at.Reads as reads
+use Rattle.time_on_air.proofs.fields.wrong_at.Lts as lts
+
+returns : tie.Need-returns
+returns c = simp (eq-eqb _ 10 (c .if1 .taken))
+
+returns-2 : tie.Need-returns-2
+returns-2 c = simp (ne-eqb _ 10 (c .if1 .left))
+
+pub wrong-at-spec : {M : Type 1} → statement M
+wrong-at-spec = tie.close (tie.spec returns returns-2)

@@ -1,0 +1,6 @@
+pub mod Packet
+pub mod Symbols
+pub mod Lines
+pub mod Report
+pub mod Onward
+pub mod Fields
