@@ -73,17 +73,18 @@ fn show_files(a: Asked) {
 
 fn main() {
     let a = words::all_words();
-    if a.help {
+    let o = a.options;
+    if o.help {
         usage(STDOUT_FILENO);
         help_on_input();
         help_on_options();
         return;
     }
-    if a.wrong {
+    if o.wrong {
         usage(STDERR_FILENO);
         return;
     }
-    if a.files {
+    if o.files {
         show_files(a);
         return;
     }

@@ -3,6 +3,7 @@ ghost use mathlib.Core.Path.{_≡_};
 ghost use Prim.Native.Nat.{_≤_};
 ghost use lib.ListN.{length};
 use crate::words::Asked;
+use desk::files;
 use libc::STDOUT_FILENO;
 use link::read_link;
 use link_lines::board;
@@ -15,15 +16,10 @@ use params::mod_params::Link;
 use reader::last_examined;
 use sheets::Variant;
 
-// What cannot be written is told, so that a table that was cut short is not taken for a whole one.
 pub fn write_part(fd: i32, text: &[u8], n: usize) -> bool
     requires { ⌜ n ≤ length (now text) ⌝ }
 {
-    let written = io::write_all(fd, &text[..n]);
-    if !written {
-        os::fail(b"linkread: standard output");
-    }
-    written
+    files::write_part(fd, text, n, b"linkread: standard output")
 }
 
 pub fn write_out(text: &[u8]) -> bool {
@@ -67,7 +63,7 @@ fn print_ruled_out_row(name: &[u8], board: Board, register: u8, value: u8) {
 fn show_link(a: Asked, name: &[u8], image: &[u8], board: Board, o: Oscillator, l: Link)
     requires { ⌜ length (now image) ≡ 128 ⌝ }
 {
-    if a.table {
+    if a.options.table {
         print_link_row(name, board, l);
     } else {
         print_link(board, o, image[0x09], l);
@@ -79,7 +75,7 @@ fn show_ruled_out(a: Asked, name: &[u8], image: &[u8], board: Board, o: Oscillat
 {
     let register = last_examined(image, board);
     let value = image[register as usize];
-    if a.table {
+    if a.options.table {
         print_ruled_out_row(name, board, register, value);
     } else {
         print_ruled_out(board, o, register, value);
@@ -138,7 +134,7 @@ fn show_possible(a: Asked, name: &[u8], image: &[u8], chip: u16, boost: bool) ->
     match read_link(image, board) {
         LinkAnswer::Found(l) => {
             show_link(a, name, image, board, o, l);
-            if a.table && also {
+            if a.options.table && also {
                 show_link(a, name, image, with, o, l);
             }
             true

@@ -1,28 +1,18 @@
 // What the command line asks: a board, a form, files.
 use board_words::words::Word;
 use board_words::words::board_word;
-use libc::STDERR_FILENO;
-use text::reading::same;
+use desk::options;
+use desk::options::Options;
+use desk::options::is_option;
 
 // The chip is 0 where no word names one. Wrong is an option that is none, a second chip, a word that is too long, or what a board
-// has without a chip; it is told where it is found.
+// has without a chip.
 pub struct Asked {
     pub chip: u16,
     pub tcxo: bool,
     pub boost: bool,
     pub rx_boost: bool,
-    pub table: bool,
-    pub aloud: bool,
-    pub files: bool,
-    pub help: bool,
-    pub wrong: bool,
-}
-
-fn is_option(word: &[u8]) -> bool {
-    if word.len() < 2 {
-        return false;
-    }
-    word[0] == b'-'
+    pub options: Options,
 }
 
 // A word that says nothing of a board and is no option names a file.
@@ -33,13 +23,15 @@ pub fn is_file(word: &[u8]) -> bool {
     }
 }
 
-fn wrong(asked: Asked, what: &[u8], text: &[u8]) -> Asked {
-    io::write_all(STDERR_FILENO, b"linkread: ");
-    io::write_all(STDERR_FILENO, what);
-    io::write_all(STDERR_FILENO, text);
+fn with_options(asked: Asked, o: Options) -> Asked {
     let mut a = asked;
-    a.wrong = true;
+    a.options = o;
     a
+}
+
+fn wrong(asked: Asked, what: &[u8], text: &[u8]) -> Asked {
+    let o = asked.options;
+    with_options(asked, options::wrong(o, b"linkread", what, text))
 }
 
 fn with_chip(asked: Asked, chip: u16) -> Asked {
@@ -51,23 +43,8 @@ fn with_chip(asked: Asked, chip: u16) -> Asked {
     a
 }
 
-fn with_option(asked: Asked, word: &[u8]) -> Asked {
-    let mut a = asked;
-    if !is_option(word) {
-        a.files = true;
-    } else if same(word, b"-t") {
-        a.table = true;
-    } else if same(word, b"-e") {
-        a.aloud = true;
-    } else if same(word, b"-h") {
-        a.help = true;
-    } else {
-        return wrong(a, word, b" is no option\n");
-    }
-    a
-}
-
 fn with_word(asked: Asked, word: &[u8]) -> Asked {
+    let o = asked.options;
     let mut a = asked;
     match board_word(word) {
         Word::Sx1272 => return with_chip(a, 1272),
@@ -75,7 +52,7 @@ fn with_word(asked: Asked, word: &[u8]) -> Asked {
         Word::Tcxo => a.tcxo = true,
         Word::Boost => a.boost = true,
         Word::RxBoost => a.rx_boost = true,
-        Word::Other => return with_option(a, word),
+        Word::Other => return with_options(a, options::with_word(o, b"linkread", word)),
     }
     a
 }
@@ -86,7 +63,8 @@ fn with_argument(asked: Asked, i: usize) -> Asked {
     if os::errno() == 0 {
         return with_word(asked, &word[..n]);
     }
-    wrong(asked, b"a word", b" has more than 4096 bytes\n")
+    let o = asked.options;
+    with_options(asked, options::too_long(o, b"linkread"))
 }
 
 fn settled(a: Asked) -> Asked {
@@ -105,21 +83,18 @@ fn settled(a: Asked) -> Asked {
 // The words are looked at in turn, up to one that is wrong or asks for help.
 pub fn all_words() -> Asked {
     let count = os::arg_count();
+    let none = options::none();
     let mut a = Asked {
         chip: 0,
         tcxo: false,
         boost: false,
         rx_boost: false,
-        table: false,
-        aloud: false,
-        files: false,
-        help: false,
-        wrong: false,
+        options: none,
     };
     let mut i = 1;
     while i < count {
         a = with_argument(a, i);
-        if a.help || a.wrong {
+        if a.options.help || a.options.wrong {
             return a;
         }
         i += 1;

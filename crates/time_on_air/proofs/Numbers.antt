@@ -13,7 +13,7 @@ use Rattle.text.specs.Words.{all}
 use Rattle.text.specs.Decimal.{isDigit, digits, valueFrom}
 use Rattle.time_on_air.specs.Lines.{isNumber}
 use Rattle.time_on_air.specs.Onward.{more, goesOn, heldFrom}
-use Rattle.time_on_air.proofs.Parts.{decided}
+use Rattle.time_on_air.proofs.Parts.{decided, and-false, and-true}
 use Rattle.time_on_air.proofs.Caps.{cap}
 use Rattle.time_on_air.proofs.fields.Digit.{both}
 
@@ -48,14 +48,6 @@ behind-first (b ∷ f) v n h e =
     (decided (isDigit b))
 
 -- ---- a whole field
-
-and-false : (t : Bool) → t && false ≡ false
-and-false true = refl
-and-false false = refl
-
-and-true : (t : Bool) → t && true ≡ t
-and-true true = refl
-and-true false = refl
 
 -- a digit behind a 0, whatever follows it
 after-zero : (g : List ℕ) → Holds (heldFrom 1 g) (all isDigit g && eqb (suc (length g)) 1) (valueFrom g 0)

@@ -15,7 +15,7 @@ use Rattle.time_on_air.specs.declared.fields.Ended.the-variants.{Field, 
 use Rattle.time_on_air.specs.Packet.{packetFault}
 use Rattle.time_on_air.specs.Lines.{tab, lf, parts, packetOf}
 use Rattle.time_on_air.specs.Report.{mostLines}
-use Rattle.time_on_air.specs.Onward.{Outcome, bad, late, more, goesOn, Said, says, wrong, missing, fieldsFrom, lineFrom, saidFault, saidNumbers, added, begun, orBad, onward}
+use Rattle.time_on_air.specs.Onward.{Outcome, late, badLine, more, goesOn, Said, says, wrong, missing, fieldsFrom, lineFrom, saidFault, saidNumbers, added, begun, orBad, onward}
 use Rattle.time_on_air.specs.Fields.{taken, after, wrongAt, tabEnds, lfEnds, endedBy}
 use Rattle.time_on_air.proofs.Parts.{decided, Some, some}
 use Rattle.time_on_air.proofs.fields.Digit.{digit-from}
@@ -78,37 +78,23 @@ run n sums w ns k h (b ∷ xs) t =
     (λ g. rw g)
     (decided (goesOn h b))
 
--- ---- after the 50,000th line
-
--- whatever a byte begins
-pub over : (n : ℕ) (sums : List ℕ) (w : Bool) (ns : List ℕ) (k h b : ℕ) (t : List ℕ) → mostLines ≤ n
-    → onward n sums w ns k h (parts lf (b ∷ t)) ≡ late
-over n sums w ns k h b t m =
-    let s = some lf t in
-    ⊎-elim
-    (λ (e : eqb b lf ≡ true). rw (e, s .are, le-ltb n mostLines m))
-    (λ (e : eqb b lf ≡ false). rw (e, s .are) (over-parts (s .rest)))
-    (decided (eqb b lf))
-  where
-    over-parts : (ps : List (List ℕ)) → onward n sums w ns k h ((b ∷ some lf t .first) ∷ ps) ≡ late
-    over-parts [] = rw (begun-by-a-byte w k h b (some lf t .first), le-ltb n mostLines m)
-    over-parts (q ∷ qs) = rw (le-ltb n mostLines m)
-
 -- ---- a byte that is no digit of a number
 
 -- what is left once it has ended what it ends
 abbrev pub ends : ℕ → List ℕ → Bool → List ℕ → ℕ → ℕ → Ended → List (List ℕ) → Outcome
 ends n sums w ns k h Field ps = onward n sums w (set ns k (h - 1)) (suc k) 0 ps
 ends n sums w ns k h Line ps =
-    orBad (suc n) (packetFault (packetOf (set ns 7 (h - 1))))
-    (onward (suc n) (added sums (packetOf (set ns 7 (h - 1)))) w (set ns 7 (h - 1)) 0 0 ps)
+    cond (ltb n mostLines)
+    (orBad (suc n) (packetFault (packetOf (set ns 7 (h - 1))))
+    (onward (suc n) (added sums (packetOf (set ns 7 (h - 1)))) w (set ns 7 (h - 1)) 0 0 ps))
+    late
 ends n sums w ns k h (Wrong j) ps = onward n sums true ns j h ps
-ends n sums w ns k h (WrongLine j) ps = bad (Form j) (suc n)
+ends n sums w ns k h (WrongLine j) ps = badLine (Form j) n
 
 abbrev pub EndsAs : ℕ → List ℕ → Bool → List ℕ → ℕ → ℕ → ℕ → List ℕ → Ended → Type 0
 EndsAs n sums w ns k h b t e = onward n sums w ns k h (parts lf (b ∷ t)) ≡ ends n sums w ns k h e (parts lf t)
 
-module _ (n : ℕ) (sums : List ℕ) (room : n < mostLines) where
+module _ (n : ℕ) (sums : List ℕ) where
   -- a line that is wrong, whatever ends it
   module _ (w : Bool) (ns : List ℕ) (k j h b : ℕ) (wrongs : (p : List ℕ) → lineFrom w ns k h (b ∷ p) ≡ wrong j) where
     goes-wrong : (p : List ℕ) (ps : List (List ℕ)) → onward n sums w ns k h ((b ∷ p) ∷ ps) ≡ onward n sums true ns j h (p ∷ ps)
@@ -121,8 +107,10 @@ module _ (n : ℕ) (sums : List ℕ) (room : n < mostLines) where
   -- a line that ends here
   line-ends : (w : Bool) (ns : List ℕ) (k h : ℕ) (t : List ℕ)
       → onward n sums w ns k h (parts lf (lf ∷ t))
-      ≡ orBad (suc n) (saidFault (lineFrom w ns k h [])) (onward (suc n) (added sums (packetOf (saidNumbers (lineFrom w ns k h [])))) false (saidNumbers (lineFrom w ns k h [])) 0 0 (parts lf t))
-  line-ends w ns k h t = let s = some lf t in rw (s .are, lt-ltb n mostLines room)
+      ≡ cond (ltb n mostLines)
+      (orBad (suc n) (saidFault (lineFrom w ns k h [])) (onward (suc n) (added sums (packetOf (saidNumbers (lineFrom w ns k h [])))) false (saidNumbers (lineFrom w ns k h [])) 0 0 (parts lf t)))
+      late
+  line-ends w ns k h t = let s = some lf t in rw (s .are)
 
   module _ (ns : List ℕ) (k : ℕ) where
     -- nothing was read of a field that a byte ends

@@ -2,7 +2,7 @@
 -- Assumes nothing.
 use mathlib.Core.Path.{_≡_, refl}
 use mathlib.Core.Logic.{_⊎_, inl, inr}
-use mathlib.Core.Bool.{Bool, true, false, cond}
+use mathlib.Core.Bool.{Bool, true, false, cond, _&&_}
 use mathlib.Core.List.{List, [], _∷_}
 use Prim.Native.Nat.{ℕ}
 use lib.Dec.{eqb}
@@ -11,6 +11,14 @@ use Rattle.time_on_air.specs.Lines.{longer, parts}
 pub decided : (t : Bool) → (t ≡ true) ⊎ (t ≡ false)
 decided true = inl refl
 decided false = inr refl
+
+pub and-false : (t : Bool) → t && false ≡ false
+and-false true = refl
+and-false false = refl
+
+pub and-true : (t : Bool) → t && true ≡ t
+and-true true = refl
+and-true false = refl
 
 pub record Some (ps : List (List ℕ)) : Type 0 where
   pub first : List ℕ

@@ -4,3 +4,4 @@ pub mod Lines
 pub mod Report
 pub mod Onward
 pub mod Fields
+pub mod FaultWords

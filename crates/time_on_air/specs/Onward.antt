@@ -124,9 +124,13 @@ begun true k held rest = true
 abbrev pub late : Outcome
 late = bad Late (suc mostLines)
 
+-- a bad line behind so many lines
+abbrev pub badLine : LineFault → ℕ → Outcome
+badLine f lines = cond (ltb lines mostLines) (bad f (suc lines)) late
+
 -- a line without an end
 abbrev pub unended : ℕ → Outcome
-unended lines = cond (ltb lines mostLines) (bad Open (suc lines)) late
+unended lines = badLine Open lines
 
 abbrev pub orBad : ℕ → Judged → Outcome → Outcome
 orBad n Fine next = next
@@ -157,6 +161,9 @@ comesTo r text = unlessBad (r .answer) (goesTo r text)
 
 abbrev pub Refuses : LineFault → ℕ → Reading → Type 0
 Refuses f line r = (text : List ℕ) → comesTo r text ≡ bad f line
+
+abbrev pub RefusesLine : LineFault → ℕ → Reading → Type 0
+RefusesLine f lines r = (text : List ℕ) → comesTo r text ≡ badLine f lines
 
 abbrev pub GoesOn : Reading → List ℕ → Reading → Type 0
 GoesOn before piece after = (text : List ℕ) → comesTo after text ≡ goesTo before (piece ++ text)

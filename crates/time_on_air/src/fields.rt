@@ -29,10 +29,10 @@ pub enum Ended {
 fn goes_on(held: u64, b: u8) -> bool
     ensures { λ r. ⌜ r ≡ goesOn held b ⌝ }
 {
-    if held == 1 {
-        return false;
+    if is_digit(b) {
+        return held != 1;
     }
-    is_digit(b)
+    false
 }
 
 // One digit more, of a number that is held as one more than it is.
@@ -44,9 +44,8 @@ fn more(held: u64, b: u8) -> u64
     if held == 0 {
         return digit + 1;
     }
-    let n = held - 1;
-    if n < 4294967296 {
-        return n * 10 + digit + 1;
+    if held < 4294967297 {
+        return held * 10 + digit - 9;
     }
     held
 }
@@ -60,6 +59,10 @@ pub fn digits(piece: &[u8], from: usize, held: u64) -> Run
     let mut h = held;
     while at < piece.len() {
         let b = piece[at];
+        // a separator ends most numbers, and is below every digit
+        if b < b'0' {
+            return Run { at, held: h };
+        }
         if goes_on(h, b) {
             h = more(h, b);
             at += 1;

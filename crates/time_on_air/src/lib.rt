@@ -2,6 +2,7 @@
 ghost use Rattle.time_on_air.specs.Report.{Reported};
 use params::answers::AirtimeAnswer;
 
+pub mod fault_words;
 mod fields;
 pub mod packet;
 pub mod reading;

@@ -1,7 +1,7 @@
 // A depot's file read piece after piece: what was read goes in and comes out by value, and at the end it is the report on all pieces.
 ghost use mathlib.Core.Path.{_≡_};
 ghost use mathlib.Core.List.{[]};
-ghost use Rattle.time_on_air.specs.Onward.{Begins, Continues, Ends, GoesOn, Refuses, answerOf, comesTo, unended as unendedBy};
+ghost use Rattle.time_on_air.specs.Onward.{Begins, Continues, Ends, GoesOn, Refuses, RefusesLine, answerOf, comesTo, unended as unendedBy};
 use crate::fields::Ended;
 use crate::fields::digits;
 use crate::fields::ending;
@@ -55,6 +55,17 @@ fn refused(r: Reading, fault: LineFault, line: u64) -> Reading
     }
 }
 
+// The line behind so many lines; each line after the 50,000th is refused for that alone.
+fn refused_line(r: Reading, fault: LineFault, lines: u64) -> Reading
+    ensures { λ s. ⌜ RefusesLine fault lines s ⌝ }
+{
+    if lines < MOST_LINES {
+        refused(r, fault, lines + 1)
+    } else {
+        refused(r, LineFault::Late, 50_001)
+    }
+}
+
 fn read_fields(r: Reading, piece: &[u8]) -> Reading
     ensures { λ s. ⌜ GoesOn r (now (piece .entry)) s ⌝ }
 {
@@ -66,9 +77,6 @@ fn read_fields(r: Reading, piece: &[u8]) -> Reading
     let mut skipping = r.skipping;
     let mut at = 0;
     while at < piece.len() {
-        if lines >= MOST_LINES {
-            return refused(r, LineFault::Late, 50_001);
-        }
         let run = digits(piece, at, held);
         at = run.at;
         held = run.held;
@@ -82,6 +90,9 @@ fn read_fields(r: Reading, piece: &[u8]) -> Reading
                 held = 0;
             }
             Ended::Line => {
+                if lines >= MOST_LINES {
+                    return refused(r, LineFault::Late, 50_001);
+                }
                 numbers[7] = held - 1;
                 match end_line(&mut sums, &numbers) {
                     Judged::Wrong(f) => return refused(r, f, lines + 1),
@@ -96,7 +107,7 @@ fn read_fields(r: Reading, piece: &[u8]) -> Reading
                 skipping = true;
                 field = k;
             }
-            Ended::WrongLine(k) => return refused(r, LineFault::Form(k), lines + 1),
+            Ended::WrongLine(k) => return refused_line(r, LineFault::Form(k), lines),
         }
         at += 1;
     }

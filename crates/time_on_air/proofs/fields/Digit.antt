@@ -5,11 +5,12 @@ use mathlib.Core.Bool.{Bool, true, false, _&&_, not}
 use mathlib.Core.List.{List}
 use Prim.Native.Nat.{ℕ, _+_, _≤_, _<_}
 use native.Mathlib.Numerals.{add-one}
-use borrow.Author.Tests.{leb-true}
+use borrow.Author.Tests.{leb-true, lt-leb}
 use lib.Dec.{eqb, leb}
 use lib.ListN.{length, drop, getD, drop-of-length-le}
 use lib.Seq.{drop-cons}
 use Rattle.text.specs.Decimal.{isDigit}
+use Rattle.time_on_air.proofs.Parts.{and-false}
 use Rattle.time_on_air.specs.Onward.{more, goesOn}
 use Rattle.time_on_air.specs.Fields.{taken, after}
 
@@ -19,6 +20,9 @@ both false y h = (h, cc)
 
 pub digit-from : (held b : ℕ) → goesOn held b ≡ true → 48 ≤ b
 digit-from held b h = leb-true 48 b (both (leb 48 b) (leb b 57) (both (not (eqb held 1)) (isDigit b) h .1) .0)
+
+pub below-digits : (held b : ℕ) → b < 48 → goesOn held b ≡ false
+below-digits held b l = rw (lt-leb 48 b l, and-false (not (eqb held 1)))
 
 module _ (piece : List ℕ) (at held : ℕ) (l : at < length piece) where
   pub on-taken : goesOn held (getD piece at 0) ≡ true → taken held (drop at piece) ≡ taken (more held (getD piece at 0)) (drop (at + 1) piece)

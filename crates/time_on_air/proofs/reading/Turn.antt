@@ -9,16 +9,11 @@ use native.Mathlib.Numerals.{add-one}
 use lib.ListN.{length, drop, getD, drop-of-length-le}
 use lib.Seq.{drop-cons}
 use Rattle.time_on_air.specs.Lines.{lf, parts}
-use Rattle.time_on_air.specs.Report.{mostLines}
-use Rattle.time_on_air.specs.Onward.{Outcome, late, onward}
+use Rattle.time_on_air.specs.Onward.{Outcome, onward}
 use Rattle.time_on_air.specs.Fields.{Stopped, endedBy}
-use Rattle.time_on_air.proofs.Onward.{run, over, ends, ending}
+use Rattle.time_on_air.proofs.Onward.{run, ends, ending}
 
 module _ (piece : List ℕ) (n : ℕ) (sums : List ℕ) (w : Bool) (ns : List ℕ) (k held at : ℕ) (whole : List ℕ → Outcome) (left : (t : List ℕ) → onward n sums w ns k held (parts lf (drop at piece ++ t)) ≡ whole t) where
-  pub too-many : mostLines ≤ n → at < length piece → (t : List ℕ) → late ≡ whole t
-  too-many m l t =
-      sym (over n sums w ns k held (getD piece at 0) (drop (at + 1) piece ++ t) m) ∙ rw (add-one at) (rw (drop-cons piece at 0 l) at (left t))
-
   module _ (at′ held′ : ℕ) (s : Stopped piece at held at′ held′) where
     behind-digits : (t : List ℕ) → onward n sums w ns k held′ (parts lf (drop at′ piece ++ t)) ≡ whole t
     behind-digits t = rw (← s .holds, ← s .leaves) (sym (run n sums w ns k held (drop at piece) t) ∙ left t)
@@ -26,8 +21,8 @@ module _ (piece : List ℕ) (n : ℕ) (sums : List ℕ) (w : Bool) (ns : List �
     pub piece-ends : length piece ≤ at′ → (t : List ℕ) → onward n sums w ns k held′ (parts lf t) ≡ whole t
     piece-ends l t = rw (drop-of-length-le piece l) at (behind-digits t)
 
-    pub byte-ends : n < mostLines → at′ < length piece → (t : List ℕ)
+    pub byte-ends : at′ < length piece → (t : List ℕ)
         → ends n sums w ns k held′ (endedBy w k held′ (getD piece at′ 0)) (parts lf (drop (at′ + 1) piece ++ t)) ≡ whole t
-    byte-ends room l t =
-        sym (ending n sums room w ns k held′ (getD piece at′ 0) (drop (at′ + 1) piece ++ t) (s .stops l))
+    byte-ends l t =
+        sym (ending n sums w ns k held′ (getD piece at′ 0) (drop (at′ + 1) piece ++ t) (s .stops l))
         ∙ rw (add-one at′) (rw (drop-cons piece at′ 0 l) at (behind-digits t))

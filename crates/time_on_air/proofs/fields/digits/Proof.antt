@@ -1,13 +1,11 @@
-use mathlib.Core.Path.{sym, _∙_}
+use mathlib.Core.Path.{_≡_, sym, _∙_}
 use mathlib.Core.Bool.{true, false}
-use native.Mathlib.Omega.{arith}
-use lib.ListN.{getD}
-use Rattle.time_on_air.specs.Onward.{goesOn, more}
-use Rattle.time_on_air.proofs.fields.Digit.{on-taken, on-after, stop-taken, stop-after, end-taken, end-after}
-use mathlib.Core.Path.{_≡_}
 use Prim.Native.Nat.{_≤_, _<_, _-_}
-use lib.ListN.{length, drop}
+use native.Mathlib.Omega.{arith}
+use lib.ListN.{length, drop, getD}
+use Rattle.time_on_air.specs.Onward.{goesOn}
 use Rattle.time_on_air.specs.Fields.{taken, after}
+use Rattle.time_on_air.proofs.fields.Digit.{below-digits, on-taken, on-after, stop-taken, stop-after, end-taken, end-after}
 use borrow.Author.Needs.{needs}
 use Rattle.time_on_air.proofs.fields.digits.Statement.{statement}
 use Rattle.time_on_air.proofs.fields.digits.Tie as tie
@@ -28,33 +26,12 @@ loop-holds c = search needs
 shared-slice-read-b : tie.Need-shared-slice-read-b Inv-loop μ-loop
 shared-slice-read-b c = search needs
 
-goes-on-requires : tie.Need-goes-on-requires Inv-loop μ-loop
-goes-on-requires c κs = search needs
-
-more-requires : tie.Need-more-requires Inv-loop μ-loop
-more-requires c κs = sym (c .before .goes-on .ensures) ∙ c .if1 .taken
-
-add-at : tie.Need-add-at Inv-loop μ-loop
-add-at c = search needs
-
-loop-less : tie.Need-loop-less Inv-loop μ-loop
-loop-less c = search needs
-
-loop-again : tie.Need-loop-again Inv-loop μ-loop
-loop-again c =
-    let k = c .before .before .before .before in
-    let i = k .before .loop in
-    let p = k .before .before .before .args .piece .now in
-    let g : goesOn (i .h) (getD p (i .at) 0) ≡ true = sym (c .before .before .goes-on .ensures) ∙ c .before .if1 .taken in
-    let l : i .at < length p = k .loop-test .taken in
-    (omega arith, omega arith, rw (c .more .ensures) (sym (on-taken p (i .at) (i .h) l g) ∙ i .inv .2), rw (c .more .ensures) (sym (on-after p (i .at) (i .h) l g) ∙ i .inv .3))
-
 returns : tie.Need-returns Inv-loop μ-loop
 returns c =
-    let k = c .before .before .before in
+    let k = c .before .before in
     let i = k .before .loop in
     let p = k .before .before .before .args .piece .now in
-    let g : goesOn (i .h) (getD p (i .at) 0) ≡ false = sym (c .before .goes-on .ensures) ∙ c .if1 .left in
+    let g : goesOn (i .h) (getD p (i .at) 0) ≡ false = below-digits (i .h) (getD p (i .at) 0) (c .if1 .taken) in
     let l : i .at < length p = k .loop-test .taken in
     record {
       ahead = i .inv .1;
@@ -64,8 +41,44 @@ returns c =
       stops = λ m. g;
     }
 
+goes-on-requires : tie.Need-goes-on-requires Inv-loop μ-loop
+goes-on-requires c κs = search needs
+
+more-requires : tie.Need-more-requires Inv-loop μ-loop
+more-requires c κs = sym (c .before .goes-on .ensures) ∙ c .if2 .taken
+
+add-at : tie.Need-add-at Inv-loop μ-loop
+add-at c = search needs
+
+loop-less : tie.Need-loop-less Inv-loop μ-loop
+loop-less c = search needs
+
+loop-again : tie.Need-loop-again Inv-loop μ-loop
+loop-again c =
+    let k = c .before .before .before .before .before in
+    let i = k .before .loop in
+    let p = k .before .before .before .args .piece .now in
+    let g : goesOn (i .h) (getD p (i .at) 0) ≡ true = sym (c .before .before .goes-on .ensures) ∙ c .before .if2 .taken in
+    let l : i .at < length p = k .loop-test .taken in
+    (omega arith, omega arith, rw (c .more .ensures) (sym (on-taken p (i .at) (i .h) l g) ∙ i .inv .2), rw (c .more .ensures) (sym (on-after p (i .at) (i .h) l g) ∙ i .inv .3))
+
 returns-2 : tie.Need-returns-2 Inv-loop μ-loop
 returns-2 c =
+    let k = c .before .before .before .before in
+    let i = k .before .loop in
+    let p = k .before .before .before .args .piece .now in
+    let g : goesOn (i .h) (getD p (i .at) 0) ≡ false = sym (c .before .goes-on .ensures) ∙ c .if2 .left in
+    let l : i .at < length p = k .loop-test .taken in
+    record {
+      ahead = i .inv .1;
+      within = i .inv .0;
+      holds = sym (i .inv .2) ∙ stop-taken p (i .at) (i .h) l g;
+      leaves = sym (i .inv .3) ∙ stop-after p (i .at) (i .h) l g;
+      stops = λ m. g;
+    }
+
+returns-3 : tie.Need-returns-3 Inv-loop μ-loop
+returns-3 c =
     let i = c .before .loop in
     let p = c .before .before .before .args .piece .now in
     let l : length p ≤ i .at = c .loop-test .left in
@@ -85,10 +98,11 @@ digits-spec =
     μ-loop
     loop-holds
     shared-slice-read-b
+    returns
     goes-on-requires
     more-requires
     add-at
     loop-less
     loop-again
-    returns
-    returns-2)
+    returns-2
+    returns-3)

@@ -1,9 +1,9 @@
-use native.Mathlib.Numerals.{add-one}
-use Rattle.time_on_air.proofs.fields.Digit.{digit-from}
-use borrow.Author.Tests.{lt-ltb, le-ltb, leb-true}
 use mathlib.Core.Path.{_≡_}
 use Prim.Native.Nat.{suc, _-_}
 use native.Mathlib.Omega.{arith}
+use native.Mathlib.Numerals.{add-one}
+use borrow.Author.Tests.{lt-ltb, le-ltb}
+use Rattle.time_on_air.proofs.fields.Digit.{digit-from}
 use borrow.Author.Needs.{needs}
 use Rattle.time_on_air.proofs.fields.more.Statement.{statement}
 use Rattle.time_on_air.proofs.fields.more.Tie as tie
@@ -22,23 +22,20 @@ add-result c = search needs
 returns : tie.Need-returns
 returns c = rw (c .if1 .taken) (add-one _)
 
-sub-n : tie.Need-sub-n
-sub-n c = search needs
-
 mul-result : tie.Need-mul-result
 mul-result c = search needs
 
 add-result-2 : tie.Need-add-result-2
 add-result-2 c = search needs
 
-add-result-3 : tie.Need-add-result-3
-add-result-3 c = search needs
+sub-result : tie.Need-sub-result
+sub-result c = search needs
 
 returns-2 : tie.Need-returns-2
-returns-2 c = let a = c .before .before .args in let e : a .held ≡ suc (a .held - 1) = omega arith in rw e (simp (lt-ltb _ 4294967296 (c .if2 .taken)) (omega arith))
+returns-2 c = let a = c .before .before .args in let e : a .held ≡ suc (a .held - 1) = omega arith in let l = lt-ltb (a .held - 1) 4294967296 (omega arith) in rw e (rw l (omega arith))
 
 returns-3 : tie.Need-returns-3
-returns-3 c = let a = c .before .before .args in let e : a .held ≡ suc (a .held - 1) = omega arith in rw e (simp (le-ltb _ 4294967296 (c .if2 .left)))
+returns-3 c = let a = c .before .before .args in let e : a .held ≡ suc (a .held - 1) = omega arith in let l = le-ltb (a .held - 1) 4294967296 (omega arith) in rw e (rw l (omega arith))
 
 pub more-spec : {M : Type 1} → statement M
 more-spec =
@@ -48,9 +45,8 @@ more-spec =
     cast-digit
     add-result
     returns
-    sub-n
     mul-result
     add-result-2
-    add-result-3
+    sub-result
     returns-2
     returns-3)

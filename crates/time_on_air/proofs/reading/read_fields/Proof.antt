@@ -1,22 +1,19 @@
+use mathlib.Core.Path.{_≡_, sym, _∙_}
 use mathlib.Core.Logic.{⊎-elim}
-use mathlib.Core.Bool.{Bool}
+use mathlib.Core.List.{List, _++_}
+use Prim.Native.Nat.{ℕ, _-_, _≤_, _<_}
 use native.Mathlib.Numerals.{add-one}
-use lib.ListN.{getD, drop-of-length-le}
+use native.Mathlib.Omega.{arith}
+use borrow.Author.Tests.{lt-ltb, le-ltb}
+use lib.ListN.{length, drop, getD, set, drop-of-length-le}
 use Rattle.time_on_air.specs.declared.fields.Ended.the-variants as ended
 use Rattle.time_on_air.specs.declared.packet.Judged.the-variants as judged
 use Rattle.time_on_air.specs.Packet.{packetFault}
-use Rattle.time_on_air.specs.Lines.{packetOf}
-use Rattle.time_on_air.specs.Fields.{endedBy}
-use lib.ListN.{set}
-use Rattle.time_on_air.proofs.fields.Told.{field-ends, line-ends}
-use Rattle.time_on_air.proofs.reading.Turn.{too-many, piece-ends, byte-ends}
-use mathlib.Core.Path.{_≡_, refl, sym, _∙_}
-use mathlib.Core.List.{List, _++_}
-use Prim.Native.Nat.{ℕ, _+_, _-_, _≤_, _<_}
-use native.Mathlib.Omega.{arith}
-use lib.ListN.{length, drop}
-use Rattle.time_on_air.specs.Lines.{lf, parts}
+use Rattle.time_on_air.specs.Lines.{lf, parts, packetOf}
 use Rattle.time_on_air.specs.Onward.{onward, goesTo, comesTo}
+use Rattle.time_on_air.specs.Fields.{endedBy}
+use Rattle.time_on_air.proofs.fields.Told.{field-ends, line-ends}
+use Rattle.time_on_air.proofs.reading.Turn.{piece-ends, byte-ends}
 use borrow.Author.Needs.{needs}
 use Rattle.time_on_air.proofs.reading.read_fields.Statement.{statement}
 use Rattle.time_on_air.proofs.reading.read_fields.Tie as tie
@@ -25,6 +22,7 @@ use Rattle.time_on_air.proofs.reading.read_fields.Lts as lts
 use Rattle.time_on_air.proofs.fields.digits.Reads as digits-reads
 use Rattle.time_on_air.proofs.fields.ending.Reads as ending-reads
 use Rattle.time_on_air.proofs.reading.refused.Reads as refused-reads
+use Rattle.time_on_air.proofs.reading.refused_line.Reads as refused-line-reads
 use Rattle.time_on_air.proofs.totals.end_line.Reads as end-line-reads
 
 abbrev Inv-loop : tie.InvT-loop
@@ -37,17 +35,6 @@ abbrev μ-loop : tie.MeasureT-loop
 
 loop-holds : tie.Need-loop-holds Inv-loop μ-loop
 loop-holds c = search needs
-
-refused-requires : tie.Need-refused-requires Inv-loop μ-loop
-refused-requires c κs = search needs
-
-returns : tie.Need-returns Inv-loop μ-loop
-returns c =
-    let l = c .before .before .before in
-    let i = l .loop in
-    let a = l .before .before .before .before .args in
-    let p = a .piece .now in
-    λ t. c .refused .ensures t ∙ too-many p (i .lines) (i .sums) (i .skipping) (i .numbers) (i .field) (i .held) (i .at) (λ (t : List ℕ). goesTo (a .r) (p ++ t)) (i .inv .1) (c .before .if1 .taken) (c .before .before .loop-test .taken) t
 
 digits-requires : tie.Need-digits-requires Inv-loop μ-loop
 digits-requires c κs = search needs
@@ -64,7 +51,7 @@ enum-told c = search needs
 sub-numbers : tie.Need-sub-numbers Inv-loop μ-loop
 sub-numbers c =
     let d = c .before .before .before .before .before in
-    let l = d .before .before .before in
+    let l = d .before .before in
     let i = l .loop in
     let a = l .before .before .before .before .args in
     let p = a .piece .now in
@@ -75,7 +62,7 @@ sub-numbers c =
 mul-numbers : tie.Need-mul-numbers Inv-loop μ-loop
 mul-numbers c =
     let d = c .before .before .before .before .before in
-    let l = d .before .before .before in
+    let l = d .before .before in
     let i = l .loop in
     let a = l .before .before .before .before .args in
     let p = a .piece .now in
@@ -87,7 +74,7 @@ mul-numbers c =
 array-write-numbers : tie.Need-array-write-numbers Inv-loop μ-loop
 array-write-numbers c =
     let d = c .before .before .before .before .before in
-    let l = d .before .before .before in
+    let l = d .before .before in
     let i = l .loop in
     let a = l .before .before .before .before .args in
     let p = a .piece .now in
@@ -98,7 +85,7 @@ array-write-numbers c =
 add-field : tie.Need-add-field Inv-loop μ-loop
 add-field c =
     let d = c .before .before .before .before .before in
-    let l = d .before .before .before in
+    let l = d .before .before in
     let i = l .loop in
     let a = l .before .before .before .before .args in
     let p = a .piece .now in
@@ -110,15 +97,30 @@ add-field c =
 enum-told-2 : tie.Need-enum-told-2 Inv-loop μ-loop
 enum-told-2 c = search needs
 
-sub-numbers-2 : tie.Need-sub-numbers-2 Inv-loop μ-loop
-sub-numbers-2 c =
-    let d = c .before .before .before .before .before in
-    let l = d .before .before .before in
+refused-requires : tie.Need-refused-requires Inv-loop μ-loop
+refused-requires c κs = search needs
+
+returns : tie.Need-returns Inv-loop μ-loop
+returns c =
+    let d = c .before .before .before .before .before .before .before in
+    let l = d .before .before in
     let i = l .loop in
     let a = l .before .before .before .before .args in
     let p = a .piece .now in
     let s = d .digits .result in
-    let x : endedBy (i .skipping) (i .field) (s .held) (getD p (s .at) 0) ≡ ended.Line = sym (c .before .before .ending .ensures) ∙ c .enum-told2 .given .1 in
+    let inside : s .at < length p = omega arith in
+    let x : endedBy (i .skipping) (i .field) (s .held) (getD p (s .at) 0) ≡ ended.Line = sym (c .before .before .before .before .ending .ensures) ∙ c .before .before .enum-told2 .given .1 in
+    λ t. c .refused .ensures t ∙ rw (x, le-ltb (i .lines) 50000 (c .before .if2 .taken)) at (byte-ends p (i .lines) (i .sums) (i .skipping) (i .numbers) (i .field) (i .held) (i .at) (λ (t : List ℕ). goesTo (a .r) (p ++ t)) (i .inv .1) (s .at) (s .held) (d .digits .ensures) inside t)
+
+sub-numbers-2 : tie.Need-sub-numbers-2 Inv-loop μ-loop
+sub-numbers-2 c =
+    let d = c .before .before .before .before .before .before in
+    let l = d .before .before in
+    let i = l .loop in
+    let a = l .before .before .before .before .args in
+    let p = a .piece .now in
+    let s = d .digits .result in
+    let x : endedBy (i .skipping) (i .field) (s .held) (getD p (s .at) 0) ≡ ended.Line = sym (c .before .before .before .ending .ensures) ∙ c .before .enum-told2 .given .1 in
     omega (arith, line-ends (i .skipping) (i .field) (s .held) (getD p (s .at) 0) x)
 
 array-write-numbers-2 : tie.Need-array-write-numbers-2 Inv-loop μ-loop
@@ -138,17 +140,16 @@ refused-requires-2 c κs = search needs
 
 returns-2 : tie.Need-returns-2 Inv-loop μ-loop
 returns-2 c =
-    let d = c .before .before .before .before .before .before .before .before .before .before .before .before in
-    let l = d .before .before .before in
+    let d = c .before .before .before .before .before .before .before .before .before .before .before .before .before in
+    let l = d .before .before in
     let i = l .loop in
     let a = l .before .before .before .before .args in
     let p = a .piece .now in
     let s = d .digits .result in
-    let room : i .lines < 50000 = d .before .if1 .left in
-    let inside : s .at < length p = omega (arith, d .digits .ensures .within, c .before .before .before .before .before .before .before .before .before .before .before .if2 .left) in
-    let x : endedBy (i .skipping) (i .field) (s .held) (getD p (s .at) 0) ≡ ended.Line = sym (c .before .before .before .before .before .before .before .before .before .ending .ensures) ∙ c .before .before .before .before .before .before .before .enum-told2 .given .1 in
+    let inside : s .at < length p = omega (arith, d .digits .ensures .within, c .before .before .before .before .before .before .before .before .before .before .before .before .if1 .left) in
+    let x : endedBy (i .skipping) (i .field) (s .held) (getD p (s .at) 0) ≡ ended.Line = sym (c .before .before .before .before .before .before .before .before .before .before .ending .ensures) ∙ c .before .before .before .before .before .before .before .before .enum-told2 .given .1 in
     let y : packetFault (packetOf (set (i .numbers) 7 (s .held - 1))) ≡ judged.Wrong (c .before .before .f .given .0 .0) = sym (c .before .before .before .before .end-line .ensures .0) ∙ c .before .before .f .given .1 in
-    λ t. c .refused2 .ensures t ∙ rw (add-one (i .lines)) (rw (x, y) at (byte-ends p (i .lines) (i .sums) (i .skipping) (i .numbers) (i .field) (i .held) (i .at) (λ (t : List ℕ). goesTo (a .r) (p ++ t)) (i .inv .1) (s .at) (s .held) (d .digits .ensures) room inside t))
+    λ t. c .refused2 .ensures t ∙ rw (add-one (i .lines)) (rw (x, lt-ltb (i .lines) 50000 (c .before .before .before .before .before .before .before .if2 .left), y) at (byte-ends p (i .lines) (i .sums) (i .skipping) (i .numbers) (i .field) (i .held) (i .at) (λ (t : List ℕ). goesTo (a .r) (p ++ t)) (i .inv .1) (s .at) (s .held) (d .digits .ensures) inside t))
 
 enum-told-3 : tie.Need-enum-told-3 Inv-loop μ-loop
 enum-told-3 c = search needs
@@ -162,24 +163,20 @@ enum-known-k c = search needs
 enum-known-k-2 : tie.Need-enum-known-k-2 Inv-loop μ-loop
 enum-known-k-2 c = search needs
 
-add-refused-2 : tie.Need-add-refused-2 Inv-loop μ-loop
-add-refused-2 c = search needs
-
-refused-requires-3 : tie.Need-refused-requires-3 Inv-loop μ-loop
-refused-requires-3 c κs = search needs
+refused-line-requires : tie.Need-refused-line-requires Inv-loop μ-loop
+refused-line-requires c κs = search needs
 
 returns-3 : tie.Need-returns-3 Inv-loop μ-loop
 returns-3 c =
     let d = c .before .before .before .before .before .before .before in
-    let l = d .before .before .before in
+    let l = d .before .before in
     let i = l .loop in
     let a = l .before .before .before .before .args in
     let p = a .piece .now in
     let s = d .digits .result in
-    let room : i .lines < 50000 = d .before .if1 .left in
     let inside : s .at < length p = omega arith in
     let x : endedBy (i .skipping) (i .field) (s .held) (getD p (s .at) 0) ≡ ended.WrongLine (c .before .before .k2 .given .0 .0) = sym (c .before .before .before .before .ending .ensures) ∙ c .before .before .k2 .given .1 in
-    λ t. c .refused3 .ensures t ∙ rw (add-one (i .lines)) (rw x at (byte-ends p (i .lines) (i .sums) (i .skipping) (i .numbers) (i .field) (i .held) (i .at) (λ (t : List ℕ). goesTo (a .r) (p ++ t)) (i .inv .1) (s .at) (s .held) (d .digits .ensures) room inside t))
+    λ t. c .refused-line .ensures t ∙ rw x at (byte-ends p (i .lines) (i .sums) (i .skipping) (i .numbers) (i .field) (i .held) (i .at) (λ (t : List ℕ). goesTo (a .r) (p ++ t)) (i .inv .1) (s .at) (s .held) (d .digits .ensures) inside t)
 
 add-at : tie.Need-add-at Inv-loop μ-loop
 add-at c = search needs
@@ -187,7 +184,7 @@ add-at c = search needs
 loop-less : tie.Need-loop-less Inv-loop μ-loop
 loop-less c =
     let d = c .before .before .before .before in
-    let l = d .before .before .before in
+    let l = d .before .before in
     let i = l .loop in
     let a = l .before .before .before .before .args in
     let p = a .piece .now in
@@ -198,23 +195,23 @@ loop-less c =
 loop-again : tie.Need-loop-again Inv-loop μ-loop
 loop-again c =
     let d = c .before .before .before .before in
-    let l = d .before .before .before in
+    let l = d .before .before in
     let i = l .loop in
     let a = l .before .before .before .before .args in
     let p = a .piece .now in
     let s = d .digits .result in
-    let room : i .lines < 50000 = d .before .if1 .left in
     let inside : s .at < length p = omega arith in (
       omega arith,
-      λ t. ⊎-elim
+      λ t. let left = byte-ends p (i .lines) (i .sums) (i .skipping) (i .numbers) (i .field) (i .held) (i .at) (λ (t : List ℕ). goesTo (a .r) (p ++ t)) (i .inv .1) (s .at) (s .held) (d .digits .ensures) inside t in
+          ⊎-elim
           (λ u. let x : endedBy (i .skipping) (i .field) (s .held) (getD p (s .at) 0) ≡ ended.Field = sym (c .before .ending .ensures) ∙ u .1 .given .1 in
-          rw (u .2, u .3, u .4, u .5, u .6, u .7, add-one (i .field)) (rw x at (byte-ends p (i .lines) (i .sums) (i .skipping) (i .numbers) (i .field) (i .held) (i .at) (λ (t : List ℕ). goesTo (a .r) (p ++ t)) (i .inv .1) (s .at) (s .held) (d .digits .ensures) room inside t)))
+          rw (u .2, u .3, u .4, u .5, u .6, u .7, add-one (i .field)) (rw x at left))
           (⊎-elim
           (λ u. let x : endedBy (i .skipping) (i .field) (s .held) (getD p (s .at) 0) ≡ ended.Line = sym (c .before .ending .ensures) ∙ u .1 .given .1 in
-          let y : packetFault (packetOf (set (i .numbers) 7 (s .held - 1))) ≡ judged.Fine = sym (u .4 .ensures .0) ∙ u .6 .given .1 in
-          rw (u .7, u .8, u .9, u .10, u .11, u .12, rw (u .6 .given .1) at (u .4 .ensures .1), add-one (i .lines)) (rw (x, y) at (byte-ends p (i .lines) (i .sums) (i .skipping) (i .numbers) (i .field) (i .held) (i .at) (λ (t : List ℕ). goesTo (a .r) (p ++ t)) (i .inv .1) (s .at) (s .held) (d .digits .ensures) room inside t)))
+          let y : packetFault (packetOf (set (i .numbers) 7 (s .held - 1))) ≡ judged.Fine = sym (u .5 .ensures .0) ∙ u .7 .given .1 in
+          rw (u .8, u .9, u .10, u .11, u .12, u .13, rw (u .7 .given .1) at (u .5 .ensures .1), add-one (i .lines)) (rw (x, lt-ltb (i .lines) 50000 (u .2 .left), y) at left))
           (λ u. let x : endedBy (i .skipping) (i .field) (s .held) (getD p (s .at) 0) ≡ ended.Wrong (u .1 .given .0 .0) = sym (c .before .ending .ensures) ∙ u .1 .given .1 in
-          rw (u .3, u .4, u .5, u .6, u .7, u .8) (rw x at (byte-ends p (i .lines) (i .sums) (i .skipping) (i .numbers) (i .field) (i .held) (i .at) (λ (t : List ℕ). goesTo (a .r) (p ++ t)) (i .inv .1) (s .at) (s .held) (d .digits .ensures) room inside t))))
+          rw (u .3, u .4, u .5, u .6, u .7, u .8) (rw x at left)))
           (c .match .came),
     )
 
@@ -231,7 +228,7 @@ returns-5 : tie.Need-returns-5 Inv-loop μ-loop
 unfolding comesTo
 returns-5 c =
     let d = c .before in
-    let l = d .before .before .before in
+    let l = d .before .before in
     let i = l .loop in
     let a = l .before .before .before .before .args in
     let p = a .piece .now in
@@ -245,8 +242,6 @@ read-fields-spec =
     Inv-loop
     μ-loop
     loop-holds
-    refused-requires
-    returns
     digits-requires
     shared-slice-read-ending
     ending-requires
@@ -256,6 +251,8 @@ read-fields-spec =
     array-write-numbers
     add-field
     enum-told-2
+    refused-requires
+    returns
     sub-numbers-2
     array-write-numbers-2
     end-line-requires
@@ -267,8 +264,7 @@ read-fields-spec =
     add-lines
     enum-known-k
     enum-known-k-2
-    add-refused-2
-    refused-requires-3
+    refused-line-requires
     returns-3
     add-at
     loop-less
