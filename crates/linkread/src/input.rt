@@ -3,10 +3,10 @@ use crate::show::show_image;
 use crate::show::write_part;
 use crate::words::Asked;
 use desk::files;
+use desk::whole_input::Input;
+use desk::whole_input::read_all;
 use dump::Read;
 use dump::faults;
-use whole_input::Input;
-use whole_input::read_all;
 
 fn say(a: Asked, name: &[u8], text: &[u8]) {
     let o = a.options;

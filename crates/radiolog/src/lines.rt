@@ -1,6 +1,8 @@
 // Lines of standard input: each is answered in turn, over one image and one FIFO.
 use crate::command::act;
 use bytes::scan::find;
+use desk::whole_input::Input;
+use desk::whole_input::read_all;
 use libc::STDERR_FILENO;
 use libc::STDIN_FILENO;
 use libc::STDOUT_FILENO;
@@ -8,8 +10,6 @@ use params::board::Board;
 use radiolog_text::command_lines::Flaw;
 use radiolog_text::command_lines::judged;
 use radiolog_text::faults::put_wrong;
-use whole_input::Input;
-use whole_input::read_all;
 
 fn write(text: &[u8]) -> bool {
     let written = io::write_all(STDOUT_FILENO, text);

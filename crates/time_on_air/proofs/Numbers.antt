@@ -1,18 +1,18 @@
 -- The number of a field, read digit after digit: it is held where the field is a number, and is the field's own up to 2^32.
 -- Assumes nothing.
-use mathlib.Core.Path.{_≡_, refl, sym, _∙_}
+use mathlib.Core.Path.{_≡_, refl}
 use mathlib.Core.Logic.{⊎-elim}
-use mathlib.Core.Bool.{Bool, true, false, cond, _&&_, _||_, not}
+use mathlib.Core.Bool.{Bool, true, false, cond, _&&_, not}
 use mathlib.Core.List.{List, [], _∷_}
-use Prim.Native.Nat.{ℕ, zero, suc, _+_, _*_, _-_, _≤_, _<_, min}
+use Prim.Native.Nat.{ℕ, suc, _+_, _*_, _-_, _≤_, _<_}
 use native.Mathlib.Omega.{arith}
 use borrow.Author.Tests.{lt-ltb, leb-true, ltb-true, ltb-false, eqb-true, eqb-false, ne-eqb}
 use lib.Dec.{eqb, leb, ltb}
-use lib.ListN.{length, getD}
+use lib.ListN.{length}
 use Rattle.text.specs.Words.{all}
 use Rattle.text.specs.Decimal.{isDigit, digits, valueFrom}
 use Rattle.time_on_air.specs.Lines.{isNumber}
-use Rattle.time_on_air.specs.Onward.{more, goesOn, heldFrom}
+use Rattle.time_on_air.specs.Onward.{more, heldFrom}
 use Rattle.time_on_air.proofs.Parts.{decided, and-false, and-true}
 use Rattle.time_on_air.proofs.Caps.{cap}
 use Rattle.time_on_air.proofs.fields.Digit.{both}

@@ -1,12 +1,12 @@
 -- What a reading comes to, byte after byte: one more digit, and a byte that ends a field or a line.
 -- Assumes nothing.
-use mathlib.Core.Path.{_≡_, refl, sym, _∙_, ap}
+use mathlib.Core.Path.{_≡_, refl, _∙_}
 use mathlib.Core.Logic.{⊎-elim}
 use mathlib.Core.Bool.{Bool, true, false, cond}
 use mathlib.Core.List.{List, [], _∷_, _++_}
 use Prim.Native.Nat.{ℕ, zero, suc, _-_, _≤_, _<_}
 use native.Mathlib.Omega.{arith}
-use borrow.Author.Tests.{eqb-true, ne-eqb, lt-ltb, le-ltb}
+use borrow.Author.Tests.{eqb-true, ne-eqb}
 use lib.Dec.{eqb, ltb}
 use lib.ListN.{set}
 use Rattle.params.specs.declared.line_faults.LineFault.the-variants.{Form}
@@ -15,9 +15,9 @@ use Rattle.time_on_air.specs.declared.fields.Ended.the-variants.{Field, 
 use Rattle.time_on_air.specs.Packet.{packetFault}
 use Rattle.time_on_air.specs.Lines.{tab, lf, parts, packetOf}
 use Rattle.time_on_air.specs.Report.{mostLines}
-use Rattle.time_on_air.specs.Onward.{Outcome, late, badLine, more, goesOn, Said, says, wrong, missing, fieldsFrom, lineFrom, saidFault, saidNumbers, added, begun, orBad, onward}
+use Rattle.time_on_air.specs.Onward.{Outcome, late, badLine, more, goesOn, wrong, fieldsFrom, lineFrom, saidFault, saidNumbers, added, begun, orBad, onward}
 use Rattle.time_on_air.specs.Fields.{taken, after, wrongAt, tabEnds, lfEnds, endedBy}
-use Rattle.time_on_air.proofs.Parts.{decided, Some, some}
+use Rattle.time_on_air.proofs.Parts.{decided, some}
 use Rattle.time_on_air.proofs.fields.Digit.{digit-from}
 
 -- ---- a line that has begun

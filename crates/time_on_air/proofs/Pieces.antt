@@ -1,7 +1,7 @@
 -- Whatever the pieces of a text, the answer at the end is the report on the whole text.
 -- Assumes nothing.
 use mathlib.Core.Path.{_≡_, refl, sym, _∙_, ap}
-use mathlib.Core.List.{List, [], _∷_, _++_, append-assoc, append-nil}
+use mathlib.Core.List.{List, [], _∷_, _++_}
 use Prim.Native.Nat.{ℕ}
 use Rattle.params.specs.declared.answers.AirtimeAnswer.{AirtimeAnswer}
 use Rattle.params.specs.declared.answers.AirtimeAnswer.the-variants.{Totals, BadLine}

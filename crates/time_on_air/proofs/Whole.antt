@@ -1,14 +1,14 @@
 -- Read from the start, a text comes to its report: the first bad line, or the sums of all packets, rounded up.
 -- Assumes nothing.
-use mathlib.Core.Path.{_≡_, refl, sym, _∙_, ap, ap₂}
+use mathlib.Core.Path.{_≡_, refl, sym, _∙_, ap}
 use mathlib.Core.Logic.{_⊎_, inl, inr, ⊎-elim}
 use mathlib.Core.Bool.{Bool, true, false, cond}
 use mathlib.Core.List.{List, [], _∷_}
 use Prim.Native.Nat.{ℕ, zero, suc, _+_, _*_, _≤_, _<_, min}
 use native.Mathlib.Omega.{arith}
-use borrow.Author.Tests.{leb-true, leb-false, le-leb, lt-leb, lt-ltb, eqb-true, eqb-false}
-use lib.Dec.{eqb, leb, ltb}
-use lib.ListN.{length, getD, set, length-set, replicate}
+use borrow.Author.Tests.{leb-true, leb-false, lt-ltb, eqb-true, eqb-false}
+use lib.Dec.{eqb, leb}
+use lib.ListN.{length, getD, length-set, replicate}
 use lib.Seq.{getD-set-same, getD-set-other}
 use Rattle.params.specs.declared.line_faults.LineFault.{LineFault}
 use Rattle.time_on_air.specs.declared.packet.Packet.{Packet}
@@ -16,11 +16,11 @@ use Rattle.time_on_air.specs.declared.packet.Judged.{Judged}
 use Rattle.time_on_air.specs.declared.packet.Judged.the-variants.{Fine, Wrong}
 use Rattle.time_on_air.specs.Packet.{packetFault, Counts}
 use Rattle.time_on_air.specs.Symbols.{quarterChips}
-use Rattle.time_on_air.specs.Lines.{tab, lf, parts, formFault, packetOf, packetIn, otherwise, lineFault}
+use Rattle.time_on_air.specs.Lines.{tab, lf, parts, formFault, packetIn, otherwise, lineFault}
 use Rattle.time_on_air.specs.Report.{mostLines, firstBad, share, sum, microseconds, each, verdict, totals}
-use Rattle.time_on_air.specs.Onward.{Outcome, outcomeOf, sent, bad, late, saidFault, orBad, lineFrom, saidNumbers, mostSum, grown, added, rounded, onward}
+use Rattle.time_on_air.specs.Onward.{outcomeOf, sent, bad, lineFrom, saidNumbers, mostSum, grown, added, rounded, onward}
 use Rattle.time_on_air.proofs.Parts.{decided, some}
-use Rattle.time_on_air.proofs.Lines.{Judges, judges}
+use Rattle.time_on_air.proofs.Lines.{judges}
 use Rattle.time_on_air.proofs.packet.Accepted.{accepted}
 use Rattle.time_on_air.proofs.symbols.Bounds.{chips-bound}
 
@@ -40,9 +40,10 @@ module _ (n : ℕ) (sums : List ℕ) (p : Packet) (room : n < mostLines) (s : Sm
       let h : v ≤ n * 1400000000 = s .each-small b in
       let l : b < length sums = let t = s .ten in let u : b ≤ 9 = c .bandwidth in omega arith in
       let g : grown v (quarterChips p) ≡ v + quarterChips p = rw (lt-ltb v mostSum (omega arith)) in
+      let shared : (t : Bool) → eqb b bw ≡ t → share bw p ≡ cond t (quarterChips p) 0 = λ t e. ap (λ (x : Bool). cond x (quarterChips p) 0) e in
       ⊎-elim
-      (λ (e : eqb b bw ≡ true). rw (e, ← eqb-true b bw e, getD-set-same sums b (grown v (quarterChips p)) 0 l) g)
-      (λ (e : eqb b bw ≡ false). rw (e, getD-set-other sums b bw (grown v (quarterChips p)) 0 (λ i. eqb-false b bw e (sym i))) (omega arith))
+      (λ (e : eqb b bw ≡ true). rw (shared true e, ← eqb-true b bw e, getD-set-same sums b (grown v (quarterChips p)) 0 l) g)
+      (λ (e : eqb b bw ≡ false). rw (shared false e, getD-set-other sums b bw (grown v (quarterChips p)) 0 (λ i. eqb-false b bw e (sym i))) (omega arith))
       (decided (eqb b bw))
 
   share-small : (bw : ℕ) → share bw p ≤ 1400000000

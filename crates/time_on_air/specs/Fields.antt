@@ -39,3 +39,10 @@ abbrev pub endedBy : Bool → ℕ → ℕ → ℕ → Ended
 endedBy true k held b = wrongAt k b
 endedBy false k zero b = wrongAt k b
 endedBy false k (suc n) b = cond (eqb b tab) (tabEnds k) (cond (eqb b lf) (lfEnds k) (Wrong k))
+
+-- what is known of a field that ends, and of the last field of a line
+abbrev pub Right : Ended → ℕ → ℕ → Type 0
+Right Field k held = (0 < held) × (k < 7)
+Right Line k held = (0 < held) × (k ≡ 7)
+Right (Wrong j) k held = Unit
+Right (WrongLine j) k held = Unit

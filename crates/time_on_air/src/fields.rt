@@ -4,7 +4,7 @@ ghost use mathlib.Core.Bool.{true};
 ghost use Prim.Native.Nat.{_≤_};
 ghost use lib.ListN.{length};
 ghost use Rattle.time_on_air.specs.Onward.{more as moreOf, goesOn, missing as missingOf};
-ghost use Rattle.time_on_air.specs.Fields.{Stopped, wrongAt, tabEnds, lfEnds, endedBy};
+ghost use Rattle.time_on_air.specs.Fields.{Stopped, wrongAt, tabEnds, lfEnds, endedBy, Right};
 use text::read_decimals::is_digit;
 
 const TAB: u8 = b'\t';
@@ -112,7 +112,7 @@ fn lf_ends(field: usize) -> Ended
 
 // A field that is being skipped, or of which nothing was read, is wrong whatever ends it.
 pub fn ending(skipping: bool, field: usize, held: u64, b: u8) -> Ended
-    ensures { λ r. ⌜ r ≡ endedBy skipping field held b ⌝ }
+    ensures { λ r. ⌜ (r ≡ endedBy skipping field held b) × Right r field held ⌝ }
 {
     if skipping {
         return wrong_at(field, b);

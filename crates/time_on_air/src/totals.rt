@@ -2,10 +2,10 @@
 ghost use mathlib.Core.Path.{_≡_};
 ghost use Prim.Native.Nat.{_≤_, _<_, min};
 ghost use lib.ListN.{length};
-ghost use Rattle.time_on_air.specs.Packet.{packetFault};
+ghost use Rattle.time_on_air.specs.Packet.{packetFault, Counts};
 ghost use Rattle.time_on_air.specs.Lines.{packetOf};
 ghost use Rattle.time_on_air.specs.Report.{microseconds};
-ghost use Rattle.time_on_air.specs.Onward.{grown as grownOf, rounded, mostSum, summed};
+ghost use Rattle.time_on_air.specs.Onward.{grown as grownOf, added, rounded, mostSum, summed};
 use crate::packet::Judged;
 use crate::packet::Packet;
 use crate::packet::packet_fault;
@@ -21,11 +21,10 @@ fn grown(sum: u64, chips: u64) -> u64
     if sum < MOST_SUM { sum + chips } else { sum }
 }
 
-// The packet of a line's eight numbers is judged, and added to the sums where nothing is wrong with it.
-pub fn end_line(sums: &mut [u64; 10], ns: &[u64; 8]) -> Judged
-    ensures { λ r. ⌜ (r ≡ packetFault (packetOf (now (ns .entry)))) × (now (sums .exit) ≡ summed r (now (sums .entry)) (packetOf (now (ns .entry)))) ⌝ }
+fn packet_of(ns: &[u64; 8]) -> Packet
+    ensures { λ r. ⌜ r ≡ packetOf (now (ns .entry)) ⌝ }
 {
-    let p = Packet {
+    Packet {
         id: ns[0],
         spreading_factor: ns[1],
         bandwidth: ns[2],
@@ -34,13 +33,34 @@ pub fn end_line(sums: &mut [u64; 10], ns: &[u64; 8]) -> Judged
         length: ns[5],
         implicit_header: ns[6],
         crc_on: ns[7],
-    };
+    }
+}
+
+fn add(sums: &mut [u64; 10], p: Packet)
+    requires { ⌜ Counts p ⌝ }
+    ensures { λ _. ⌜ now (sums .exit) ≡ added (now (sums .entry)) p ⌝ }
+{
+    let bw = p.bandwidth as usize;
+    sums[bw] = grown(sums[bw], quarter_chips(p));
+}
+
+// The packet of a line's eight numbers is judged, and added to the sums where nothing is wrong with it.
+pub fn end_line(sums: &mut [u64; 10], ns: &[u64; 8]) -> Judged
+    ensures { λ r. ⌜ (r ≡ packetFault (packetOf (now (ns .entry)))) × (now (sums .exit) ≡ summed r (now (sums .entry)) (packetOf (now (ns .entry)))) ⌝ }
+{
+    let p = packet_of(ns);
     let judged = packet_fault(p);
     if let Judged::Fine = judged {
-        let bw = p.bandwidth as usize;
-        sums[bw] = grown(sums[bw], quarter_chips(p));
+        add(sums, p);
     }
     judged
+}
+
+// No sum that was read is larger; of any other the sum below is taken, so that what follows fits.
+fn bounded(sum: u64) -> u64
+    ensures { λ r. ⌜ (r ≡ min sum mostSum) × (r ≤ mostSum) ⌝ }
+{
+    if sum < MOST_SUM { sum } else { MOST_SUM }
 }
 
 // Rounded up.
@@ -49,8 +69,7 @@ fn total(bw: u8, sum: u64) -> u64
     ensures { λ r. ⌜ r ≡ microseconds bw (min sum mostSum) ⌝ }
 {
     let hertz = bandwidth_hertz(bw) as u64;
-    let most = if sum < MOST_SUM { sum } else { MOST_SUM };
-    (250_000 * most + (hertz - 1)) / hertz
+    (250_000 * bounded(sum) + (hertz - 1)) / hertz
 }
 
 pub fn totals_of(sums: [u64; 10]) -> [u64; 10]

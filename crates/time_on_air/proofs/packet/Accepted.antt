@@ -1,15 +1,15 @@
 -- What is known of a packet that nothing refuses.
 -- Assumes nothing.
 use mathlib.Core.Path.{_≡_, refl}
-use mathlib.Core.Bool.{Bool, true, false, _&&_, not}
+use mathlib.Core.Bool.{Bool, true, false}
 use Prim.Native.Nat.{ℕ, _≤_}
 use native.Mathlib.Omega.{arith}
 use borrow.Author.Tests.{leb-true, eqb-false, not-true}
-use lib.Dec.{leb, eqb}
+use lib.Dec.{eqb}
 use Rattle.params.specs.declared.line_faults.LineFault.{LineFault}
 use Rattle.time_on_air.specs.declared.packet.Packet.{Packet}
 use Rattle.time_on_air.specs.declared.packet.Judged.{Judged}
-use Rattle.time_on_air.specs.declared.packet.Judged.the-variants.{Fine, Wrong}
+use Rattle.time_on_air.specs.declared.packet.Judged.the-variants.{Fine}
 use Rattle.time_on_air.specs.Packet.{unless, sheetFault, flagFault, codeFault, packetFault, Counts}
 
 pub passed : (t : Bool) (f : LineFault) (next : Judged) → unless t f next ≡ Fine → (t ≡ true) × (next ≡ Fine)

@@ -5,7 +5,6 @@ use mathlib.Core.Bool.{Bool, true, false, cond}
 use mathlib.Core.List.{List, []}
 use Prim.Native.Nat.{ℕ, zero, suc}
 use lib.Dec.{ltb}
-use native.Mathlib.Omega.{arith}
 use Rattle.params.specs.declared.line_faults.LineFault.the-variants.{Open}
 use Rattle.time_on_air.specs.Report.{mostLines}
 use Rattle.time_on_air.specs.Onward.{begun, unended, bad, late, leftBy}

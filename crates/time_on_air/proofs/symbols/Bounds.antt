@@ -2,16 +2,20 @@
 -- Assumes nothing.
 use mathlib.Core.Bool.{Bool, true, false, cond}
 use lib.Dec.{ltb, lit≤}
-use Prim.Native.Nat.{ℕ, _≤_, _+_, _*_, _-_, _/_, _%_, _^_}
-use native.Mathlib.Nat.{div-le-self, mul-le-mul, le-trans}
+use Prim.Native.Nat.{ℕ, zero, suc, _≤_, _+_, _*_, _-_, _/_, _%_, _^_}
+use native.Mathlib.Nat.{div-eq-of-lt, div-le-self, mul-le-mul, le-trans}
 use native.Mathlib.Omega.{arith}
-use mathlib.Core.Path.{_≡_}
+use borrow.Author.Tests.{ltb-true}
+use mathlib.Core.Path.{_≡_, refl}
+use mathlib.Core.Logic.{⊎-elim}
+use lib.IntN.{ℤ, pos, negsuc, negℤ, subℕ}
 use lib.Pow.{pow-mono}
+use Rattle.time_on_air.proofs.Parts.{decided}
 use Rattle.sheets.proofs.Sweep.{equal}
 use Rattle.sheets.specs.Modem.{symbolTime, optimize}
 use Rattle.time_on_air.specs.declared.packet.Packet.{Packet}
 use Rattle.time_on_air.specs.Packet.{Counts}
-use Rattle.time_on_air.specs.Symbols.{ceil, codedBits, codedSymbols, quarterSymbols, quarterChips}
+use Rattle.time_on_air.specs.Symbols.{ceil, greaterOf0, codedBits, codedSymbols, quarterSymbols, quarterChips}
 
 one-of : (t : Bool) → cond t 1 0 ≤ 1
 one-of true = lit≤ tt
@@ -21,14 +25,35 @@ pub optimize-flag : (sf bw : ℕ) → optimize sf bw ≤ 1
 unfolding optimize
 optimize-flag sf bw = one-of (ltb 16 (symbolTime sf bw))
 
-pub bits-bound : (sf size implicit crc : ℕ) → size ≤ 255 → crc ≤ 1 → codedBits sf size implicit crc ≤ 2084
+-- a number below 0 makes no symbols: its quotient, rounded up, is at most 0
+none-above : (m : ℕ) → greaterOf0 (negℤ (pos m)) ≡ 0
+none-above zero = refl
+none-above (suc m) = refl
+
+pub above-zero : (sf de cr : ℕ) (bits : ℤ) → 6 ≤ sf → de ≤ 1 → codedSymbols sf de cr bits ≡ codedSymbols sf de cr (pos (greaterOf0 bits))
+unfolding codedSymbols
+above-zero sf de cr (pos n) h k = refl
+above-zero sf de cr (negsuc n) h k =
+    let g = 4 * (sf - 2 * de) in
+    let e : ceil 0 g ≡ 0 = div-eq-of-lt (omega arith) in
+    rw (none-above (suc n / g), e)
+
+pub difference : (a b : ℕ) → greaterOf0 (subℕ a b) ≡ a - b
+difference a b =
+    ⊎-elim
+    (λ (e : ltb a b ≡ true). let h = ltb-true a b e in rw e (omega arith))
+    (λ (e : ltb a b ≡ false). rw e)
+    (decided (ltb a b))
+
+pub bits-bound : (sf size implicit crc : ℕ) → size ≤ 255 → crc ≤ 1 → greaterOf0 (codedBits sf size implicit crc) ≤ 2084
 unfolding codedBits
-bits-bound sf size implicit crc h k = omega arith
+bits-bound sf size implicit crc h k =
+    rw (difference (8 * size + 28 + 16 * crc) (4 * sf + 20 * implicit)) (omega arith)
 
 pub groups-bound : (a b : ℕ) → a ≤ 2084 → b ≤ 48 → ceil a b ≤ 2131
 groups-bound a b h k = le-trans (div-le-self (a + (b - 1)) b) (omega arith)
 
-pub coded-bound : (sf de cr bits : ℕ) → sf ≤ 12 → cr ≤ 4 → bits ≤ 2084 → codedSymbols sf de cr bits ≤ 17048
+pub coded-bound : (sf de cr bits : ℕ) → sf ≤ 12 → cr ≤ 4 → bits ≤ 2084 → codedSymbols sf de cr (pos bits) ≤ 17048
 unfolding codedSymbols
 coded-bound sf de cr bits h k l =
     mul-le-mul {n₁ = ceil bits (4 * (sf - 2 * de))} {m₁ = cr + 4} {n₂ = 2131} {m₂ = 8} (groups-bound bits (4 * (sf - 2 * de)) l (omega arith)) (omega arith)
@@ -38,10 +63,11 @@ module _ (p : Packet) (c : Counts p) where
   unfolding quarterSymbols
   symbols-bound =
       let sf = p .«spreading_factor» in
+      let de = optimize sf (p .bandwidth) in
       let bits = codedBits sf (p .length) (p .«implicit_header») (p .«crc_on») in
-      let b : bits ≤ 2084 = bits-bound sf (p .length) (p .«implicit_header») (p .«crc_on») (c .size) (c .crc) in
-      let d : codedSymbols sf (optimize sf (p .bandwidth)) (p .«coding_rate») bits ≤ 17048 =
-      coded-bound sf (optimize sf (p .bandwidth)) (p .«coding_rate») bits (c .sf-high) (c .coding) b in
+      let d : codedSymbols sf de (p .«coding_rate») bits ≤ 17048 =
+      rw (above-zero sf de (p .«coding_rate») bits (c .sf-low) (optimize-flag sf (p .bandwidth)))
+      (coded-bound sf de (p .«coding_rate») (greaterOf0 bits) (c .sf-high) (c .coding) (bits-bound sf (p .length) (p .«implicit_header») (p .«crc_on») (c .size) (c .crc))) in
       let e : p .preamble ≤ 65535 = c .preamble in
       omega arith
 

@@ -6,7 +6,6 @@ use mathlib.Core.Path.{_≡_, ap}
 use Prim.Native.Nat.{ℕ, _+_, _≤_}
 use denote.Ref.{now}
 use lib.ListN.{length}
-use Rattle.text.specs.Fields.{fieldAt}
 use Rattle.text.proofs.printing.Appending.{then, same}
 use Rattle.time_on_air.specs.FaultWords.{names, named}
 use Rattle.time_on_air.proofs.fault_words.Within.{within}

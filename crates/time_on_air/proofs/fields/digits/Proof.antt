@@ -1,3 +1,5 @@
+-- `time_on_air::fields::digits` meets its contract: the loop's invariant is that what is left gives the whole.
+-- Assumes nothing.
 use mathlib.Core.Path.{_≡_, sym, _∙_}
 use mathlib.Core.Bool.{true, false}
 use Prim.Native.Nat.{_≤_, _<_, _-_}
@@ -9,22 +11,12 @@ use Rattle.time_on_air.proofs.fields.Digit.{below-digits, on-taken, on-
 use borrow.Author.Needs.{needs}
 use Rattle.time_on_air.proofs.fields.digits.Statement.{statement}
 use Rattle.time_on_air.proofs.fields.digits.Tie as tie
-use Rattle.time_on_air.proofs.fields.digits.Reads as reads
-use Rattle.time_on_air.proofs.fields.digits.Lts as lts
-use Rattle.time_on_air.proofs.fields.goes_on.Reads as goes-on-reads
-use Rattle.time_on_air.proofs.fields.more.Reads as more-reads
 
 abbrev Inv-loop : tie.InvT-loop
 Inv-loop piece from held at₀ h₀ at h = (at ≤ length piece) × (from ≤ at) × (taken h (drop at piece) ≡ taken held (drop from piece)) × (after h (drop at piece) ≡ after held (drop from piece))
 
 abbrev μ-loop : tie.MeasureT-loop
 μ-loop piece from held at₀ h₀ at h = length piece - at
-
-loop-holds : tie.Need-loop-holds Inv-loop μ-loop
-loop-holds c = search needs
-
-shared-slice-read-b : tie.Need-shared-slice-read-b Inv-loop μ-loop
-shared-slice-read-b c = search needs
 
 returns : tie.Need-returns Inv-loop μ-loop
 returns c =
@@ -41,17 +33,8 @@ returns c =
       stops = λ m. g;
     }
 
-goes-on-requires : tie.Need-goes-on-requires Inv-loop μ-loop
-goes-on-requires c κs = search needs
-
 more-requires : tie.Need-more-requires Inv-loop μ-loop
 more-requires c κs = sym (c .before .goes-on .ensures) ∙ c .if2 .taken
-
-add-at : tie.Need-add-at Inv-loop μ-loop
-add-at c = search needs
-
-loop-less : tie.Need-loop-less Inv-loop μ-loop
-loop-less c = search needs
 
 loop-again : tie.Need-loop-again Inv-loop μ-loop
 loop-again c =
@@ -96,13 +79,13 @@ digits-spec =
     (tie.spec
     Inv-loop
     μ-loop
-    loop-holds
-    shared-slice-read-b
+    (λ c. search needs)
+    (λ c. search needs)
     returns
-    goes-on-requires
+    (λ c κs. search needs)
     more-requires
-    add-at
-    loop-less
+    (λ c. search needs)
+    (λ c. search needs)
     loop-again
     returns-2
     returns-3)

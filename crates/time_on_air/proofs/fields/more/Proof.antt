@@ -1,3 +1,5 @@
+-- `time_on_air::fields::more` meets its contract: the first digit, a later one, and one that counts no more.
+-- Assumes nothing.
 use mathlib.Core.Path.{_≡_}
 use Prim.Native.Nat.{suc, _-_}
 use native.Mathlib.Omega.{arith}
@@ -7,29 +9,12 @@ use Rattle.time_on_air.proofs.fields.Digit.{digit-from}
 use borrow.Author.Needs.{needs}
 use Rattle.time_on_air.proofs.fields.more.Statement.{statement}
 use Rattle.time_on_air.proofs.fields.more.Tie as tie
-use Rattle.time_on_air.proofs.fields.more.Reads as reads
-use Rattle.time_on_air.proofs.fields.more.Lts as lts
 
 sub-digit : tie.Need-sub-digit
 sub-digit c = digit-from (c .args .held) (c .args .b) (c .pre)
 
-cast-digit : tie.Need-cast-digit
-cast-digit c = search needs
-
-add-result : tie.Need-add-result
-add-result c = search needs
-
 returns : tie.Need-returns
 returns c = rw (c .if1 .taken) (add-one _)
-
-mul-result : tie.Need-mul-result
-mul-result c = search needs
-
-add-result-2 : tie.Need-add-result-2
-add-result-2 c = search needs
-
-sub-result : tie.Need-sub-result
-sub-result c = search needs
 
 returns-2 : tie.Need-returns-2
 returns-2 c = let a = c .before .before .args in let e : a .held ≡ suc (a .held - 1) = omega arith in let l = lt-ltb (a .held - 1) 4294967296 (omega arith) in rw e (rw l (omega arith))
@@ -42,11 +27,11 @@ more-spec =
     tie.close
     (tie.spec
     sub-digit
-    cast-digit
-    add-result
+    (λ c. search needs)
+    (λ c. search needs)
     returns
-    mul-result
-    add-result-2
-    sub-result
+    (λ c. search needs)
+    (λ c. search needs)
+    (λ c. search needs)
     returns-2
     returns-3)

@@ -1,9 +1,8 @@
+-- `time_on_air::fields::tab_ends` meets its contract: a field before the eighth, and every other.
+-- Assumes nothing.
 use borrow.Author.Tests.{lt-ltb, le-ltb}
-use borrow.Author.Needs.{needs}
 use Rattle.time_on_air.proofs.fields.tab_ends.Statement.{statement}
 use Rattle.time_on_air.proofs.fields.tab_ends.Tie as tie
-use Rattle.time_on_air.proofs.fields.tab_ends.Reads as reads
-use Rattle.time_on_air.proofs.fields.tab_ends.Lts as lts
 
 returns : tie.Need-returns
 returns c = simp (lt-ltb _ 7 (c .if1 .taken))

@@ -1,9 +1,8 @@
+-- `time_on_air::fields::wrong_at` meets its contract: the line's end, and every other byte.
+-- Assumes nothing.
 use borrow.Author.Tests.{eq-eqb, ne-eqb}
-use borrow.Author.Needs.{needs}
 use Rattle.time_on_air.proofs.fields.wrong_at.Statement.{statement}
 use Rattle.time_on_air.proofs.fields.wrong_at.Tie as tie
-use Rattle.time_on_air.proofs.fields.wrong_at.Reads as reads
-use Rattle.time_on_air.proofs.fields.wrong_at.Lts as lts
 
 returns : tie.Need-returns
 returns c = simp (eq-eqb _ 10 (c .if1 .taken))

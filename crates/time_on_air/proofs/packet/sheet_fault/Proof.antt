@@ -1,10 +1,9 @@
+-- `time_on_air::packet::sheet_fault` meets its contract: the tests in their order.
+-- Assumes nothing.
 use borrow.Author.Tests.{eq-eqb, ne-eqb}
 use Rattle.time_on_air.specs.Packet.{sheetFault}
-use borrow.Author.Needs.{needs}
 use Rattle.time_on_air.proofs.packet.sheet_fault.Statement.{statement}
 use Rattle.time_on_air.proofs.packet.sheet_fault.Tie as tie
-use Rattle.time_on_air.proofs.packet.sheet_fault.Reads as reads
-use Rattle.time_on_air.proofs.packet.sheet_fault.Lts as lts
 
 returns : tie.Need-returns
 unfolding sheetFault

@@ -1,20 +1,9 @@
-use mathlib.Core.Path.{_≡_, refl, sym, _∙_}
+-- `time_on_air::reading::feed` meets its contract: a reading with a bad line stays as it is.
+-- Assumes nothing.
 use Rattle.time_on_air.specs.Onward.{comesTo}
 use borrow.Author.Needs.{needs}
 use Rattle.time_on_air.proofs.reading.feed.Statement.{statement}
 use Rattle.time_on_air.proofs.reading.feed.Tie as tie
-use Rattle.time_on_air.proofs.reading.feed.Reads as reads
-use Rattle.time_on_air.proofs.reading.feed.Lts as lts
-use Rattle.time_on_air.proofs.reading.read_fields.Reads as read-fields-reads
-
-enum-told : tie.Need-enum-told
-enum-told c = search needs
-
-read-fields-requires : tie.Need-read-fields-requires
-read-fields-requires c κs = search needs
-
-enum-told-2 : tie.Need-enum-told-2
-enum-told-2 c = search needs
 
 returns : tie.Need-returns
 unfolding comesTo
@@ -25,4 +14,4 @@ unfolding comesTo
 returns-2 c = λ t. rw (c .enum-told2 .given .1)
 
 pub feed-spec : {M : Type 1} → statement M
-feed-spec = tie.close (tie.spec enum-told read-fields-requires enum-told-2 returns returns-2)
+feed-spec = tie.close (tie.spec (λ c. search needs) (λ c κs. search needs) (λ c. search needs) returns returns-2)

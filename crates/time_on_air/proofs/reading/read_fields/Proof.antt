@@ -1,3 +1,5 @@
+-- `time_on_air::reading::read_fields` meets its contract: the loop's invariant is that what is left gives the whole; each turn takes the digits and the byte behind them (`byte-ends`).
+-- Assumes nothing.
 use mathlib.Core.Path.{_≡_, sym, _∙_}
 use mathlib.Core.Logic.{⊎-elim}
 use mathlib.Core.List.{List, _++_}
@@ -12,18 +14,10 @@ use Rattle.time_on_air.specs.Packet.{packetFault}
 use Rattle.time_on_air.specs.Lines.{lf, parts, packetOf}
 use Rattle.time_on_air.specs.Onward.{onward, goesTo, comesTo}
 use Rattle.time_on_air.specs.Fields.{endedBy}
-use Rattle.time_on_air.proofs.fields.Told.{field-ends, line-ends}
 use Rattle.time_on_air.proofs.reading.Turn.{piece-ends, byte-ends}
 use borrow.Author.Needs.{needs}
 use Rattle.time_on_air.proofs.reading.read_fields.Statement.{statement}
 use Rattle.time_on_air.proofs.reading.read_fields.Tie as tie
-use Rattle.time_on_air.proofs.reading.read_fields.Reads as reads
-use Rattle.time_on_air.proofs.reading.read_fields.Lts as lts
-use Rattle.time_on_air.proofs.fields.digits.Reads as digits-reads
-use Rattle.time_on_air.proofs.fields.ending.Reads as ending-reads
-use Rattle.time_on_air.proofs.reading.refused.Reads as refused-reads
-use Rattle.time_on_air.proofs.reading.refused_line.Reads as refused-line-reads
-use Rattle.time_on_air.proofs.totals.end_line.Reads as end-line-reads
 
 abbrev Inv-loop : tie.InvT-loop
 Inv-loop r piece sums₀ numbers₀ lines₀ field₀ held₀ skipping₀ at₀ sums numbers lines field held skipping at =
@@ -33,72 +27,17 @@ abbrev μ-loop : tie.MeasureT-loop
 μ-loop r piece sums₀ numbers₀ lines₀ field₀ held₀ skipping₀ at₀ sums numbers lines field held skipping at =
     length piece - at
 
-loop-holds : tie.Need-loop-holds Inv-loop μ-loop
-loop-holds c = search needs
-
-digits-requires : tie.Need-digits-requires Inv-loop μ-loop
-digits-requires c κs = search needs
-
-shared-slice-read-ending : tie.Need-shared-slice-read-ending Inv-loop μ-loop
-shared-slice-read-ending c = search needs
-
-ending-requires : tie.Need-ending-requires Inv-loop μ-loop
-ending-requires c κs = search needs
-
-enum-told : tie.Need-enum-told Inv-loop μ-loop
-enum-told c = search needs
-
 sub-numbers : tie.Need-sub-numbers Inv-loop μ-loop
-sub-numbers c =
-    let d = c .before .before .before .before .before in
-    let l = d .before .before in
-    let i = l .loop in
-    let a = l .before .before .before .before .args in
-    let p = a .piece .now in
-    let s = d .digits .result in
-    let x : endedBy (i .skipping) (i .field) (s .held) (getD p (s .at) 0) ≡ ended.Field = sym (c .before .before .ending .ensures) ∙ c .enum-told .given .1 in
-    omega (arith, field-ends (i .skipping) (i .field) (s .held) (getD p (s .at) 0) x)
+sub-numbers c = omega (arith, rw (c .enum-told .given .1) at (c .before .before .ending .ensures .1))
 
 mul-numbers : tie.Need-mul-numbers Inv-loop μ-loop
-mul-numbers c =
-    let d = c .before .before .before .before .before in
-    let l = d .before .before in
-    let i = l .loop in
-    let a = l .before .before .before .before .args in
-    let p = a .piece .now in
-    let s = d .digits .result in
-    let x : endedBy (i .skipping) (i .field) (s .held) (getD p (s .at) 0) ≡ ended.Field = sym (c .before .before .ending .ensures) ∙ c .enum-told .given .1 in
-    let y = field-ends (i .skipping) (i .field) (s .held) (getD p (s .at) 0) x in
-    record { fits = omega arith }
+mul-numbers c = let h = rw (c .enum-told .given .1) at (c .before .before .ending .ensures .1) in record { fits = omega arith }
 
 array-write-numbers : tie.Need-array-write-numbers Inv-loop μ-loop
-array-write-numbers c =
-    let d = c .before .before .before .before .before in
-    let l = d .before .before in
-    let i = l .loop in
-    let a = l .before .before .before .before .args in
-    let p = a .piece .now in
-    let s = d .digits .result in
-    let x : endedBy (i .skipping) (i .field) (s .held) (getD p (s .at) 0) ≡ ended.Field = sym (c .before .before .ending .ensures) ∙ c .enum-told .given .1 in
-    omega (arith, field-ends (i .skipping) (i .field) (s .held) (getD p (s .at) 0) x)
+array-write-numbers c = omega (arith, rw (c .enum-told .given .1) at (c .before .before .ending .ensures .1))
 
 add-field : tie.Need-add-field Inv-loop μ-loop
-add-field c =
-    let d = c .before .before .before .before .before in
-    let l = d .before .before in
-    let i = l .loop in
-    let a = l .before .before .before .before .args in
-    let p = a .piece .now in
-    let s = d .digits .result in
-    let x : endedBy (i .skipping) (i .field) (s .held) (getD p (s .at) 0) ≡ ended.Field = sym (c .before .before .ending .ensures) ∙ c .enum-told .given .1 in
-    let y = field-ends (i .skipping) (i .field) (s .held) (getD p (s .at) 0) x in
-    record { fits = omega arith }
-
-enum-told-2 : tie.Need-enum-told-2 Inv-loop μ-loop
-enum-told-2 c = search needs
-
-refused-requires : tie.Need-refused-requires Inv-loop μ-loop
-refused-requires c κs = search needs
+add-field c = let h = rw (c .enum-told .given .1) at (c .before .before .ending .ensures .1) in record { fits = omega arith }
 
 returns : tie.Need-returns Inv-loop μ-loop
 returns c =
@@ -109,34 +48,11 @@ returns c =
     let p = a .piece .now in
     let s = d .digits .result in
     let inside : s .at < length p = omega arith in
-    let x : endedBy (i .skipping) (i .field) (s .held) (getD p (s .at) 0) ≡ ended.Line = sym (c .before .before .before .before .ending .ensures) ∙ c .before .before .enum-told2 .given .1 in
+    let x : endedBy (i .skipping) (i .field) (s .held) (getD p (s .at) 0) ≡ ended.Line = sym (c .before .before .before .before .ending .ensures .0) ∙ c .before .before .enum-told2 .given .1 in
     λ t. c .refused .ensures t ∙ rw (x, le-ltb (i .lines) 50000 (c .before .if2 .taken)) at (byte-ends p (i .lines) (i .sums) (i .skipping) (i .numbers) (i .field) (i .held) (i .at) (λ (t : List ℕ). goesTo (a .r) (p ++ t)) (i .inv .1) (s .at) (s .held) (d .digits .ensures) inside t)
 
 sub-numbers-2 : tie.Need-sub-numbers-2 Inv-loop μ-loop
-sub-numbers-2 c =
-    let d = c .before .before .before .before .before .before in
-    let l = d .before .before in
-    let i = l .loop in
-    let a = l .before .before .before .before .args in
-    let p = a .piece .now in
-    let s = d .digits .result in
-    let x : endedBy (i .skipping) (i .field) (s .held) (getD p (s .at) 0) ≡ ended.Line = sym (c .before .before .before .ending .ensures) ∙ c .before .enum-told2 .given .1 in
-    omega (arith, line-ends (i .skipping) (i .field) (s .held) (getD p (s .at) 0) x)
-
-array-write-numbers-2 : tie.Need-array-write-numbers-2 Inv-loop μ-loop
-array-write-numbers-2 c = search needs
-
-end-line-requires : tie.Need-end-line-requires Inv-loop μ-loop
-end-line-requires c κs = search needs
-
-enum-known-f : tie.Need-enum-known-f Inv-loop μ-loop
-enum-known-f c = search needs
-
-add-refused : tie.Need-add-refused Inv-loop μ-loop
-add-refused c = search needs
-
-refused-requires-2 : tie.Need-refused-requires-2 Inv-loop μ-loop
-refused-requires-2 c κs = search needs
+sub-numbers-2 c = omega (arith, rw (c .before .enum-told2 .given .1) at (c .before .before .before .ending .ensures .1))
 
 returns-2 : tie.Need-returns-2 Inv-loop μ-loop
 returns-2 c =
@@ -147,24 +63,9 @@ returns-2 c =
     let p = a .piece .now in
     let s = d .digits .result in
     let inside : s .at < length p = omega (arith, d .digits .ensures .within, c .before .before .before .before .before .before .before .before .before .before .before .before .if1 .left) in
-    let x : endedBy (i .skipping) (i .field) (s .held) (getD p (s .at) 0) ≡ ended.Line = sym (c .before .before .before .before .before .before .before .before .before .before .ending .ensures) ∙ c .before .before .before .before .before .before .before .before .enum-told2 .given .1 in
+    let x : endedBy (i .skipping) (i .field) (s .held) (getD p (s .at) 0) ≡ ended.Line = sym (c .before .before .before .before .before .before .before .before .before .before .ending .ensures .0) ∙ c .before .before .before .before .before .before .before .before .enum-told2 .given .1 in
     let y : packetFault (packetOf (set (i .numbers) 7 (s .held - 1))) ≡ judged.Wrong (c .before .before .f .given .0 .0) = sym (c .before .before .before .before .end-line .ensures .0) ∙ c .before .before .f .given .1 in
     λ t. c .refused2 .ensures t ∙ rw (add-one (i .lines)) (rw (x, lt-ltb (i .lines) 50000 (c .before .before .before .before .before .before .before .if2 .left), y) at (byte-ends p (i .lines) (i .sums) (i .skipping) (i .numbers) (i .field) (i .held) (i .at) (λ (t : List ℕ). goesTo (a .r) (p ++ t)) (i .inv .1) (s .at) (s .held) (d .digits .ensures) inside t))
-
-enum-told-3 : tie.Need-enum-told-3 Inv-loop μ-loop
-enum-told-3 c = search needs
-
-add-lines : tie.Need-add-lines Inv-loop μ-loop
-add-lines c = search needs
-
-enum-known-k : tie.Need-enum-known-k Inv-loop μ-loop
-enum-known-k c = search needs
-
-enum-known-k-2 : tie.Need-enum-known-k-2 Inv-loop μ-loop
-enum-known-k-2 c = search needs
-
-refused-line-requires : tie.Need-refused-line-requires Inv-loop μ-loop
-refused-line-requires c κs = search needs
 
 returns-3 : tie.Need-returns-3 Inv-loop μ-loop
 returns-3 c =
@@ -175,11 +76,8 @@ returns-3 c =
     let p = a .piece .now in
     let s = d .digits .result in
     let inside : s .at < length p = omega arith in
-    let x : endedBy (i .skipping) (i .field) (s .held) (getD p (s .at) 0) ≡ ended.WrongLine (c .before .before .k2 .given .0 .0) = sym (c .before .before .before .before .ending .ensures) ∙ c .before .before .k2 .given .1 in
+    let x : endedBy (i .skipping) (i .field) (s .held) (getD p (s .at) 0) ≡ ended.WrongLine (c .before .before .k2 .given .0 .0) = sym (c .before .before .before .before .ending .ensures .0) ∙ c .before .before .k2 .given .1 in
     λ t. c .refused-line .ensures t ∙ rw x at (byte-ends p (i .lines) (i .sums) (i .skipping) (i .numbers) (i .field) (i .held) (i .at) (λ (t : List ℕ). goesTo (a .r) (p ++ t)) (i .inv .1) (s .at) (s .held) (d .digits .ensures) inside t)
-
-add-at : tie.Need-add-at Inv-loop μ-loop
-add-at c = search needs
 
 loop-less : tie.Need-loop-less Inv-loop μ-loop
 loop-less c =
@@ -204,13 +102,13 @@ loop-again c =
       omega arith,
       λ t. let left = byte-ends p (i .lines) (i .sums) (i .skipping) (i .numbers) (i .field) (i .held) (i .at) (λ (t : List ℕ). goesTo (a .r) (p ++ t)) (i .inv .1) (s .at) (s .held) (d .digits .ensures) inside t in
           ⊎-elim
-          (λ u. let x : endedBy (i .skipping) (i .field) (s .held) (getD p (s .at) 0) ≡ ended.Field = sym (c .before .ending .ensures) ∙ u .1 .given .1 in
+          (λ u. let x : endedBy (i .skipping) (i .field) (s .held) (getD p (s .at) 0) ≡ ended.Field = sym (c .before .ending .ensures .0) ∙ u .1 .given .1 in
           rw (u .2, u .3, u .4, u .5, u .6, u .7, add-one (i .field)) (rw x at left))
           (⊎-elim
-          (λ u. let x : endedBy (i .skipping) (i .field) (s .held) (getD p (s .at) 0) ≡ ended.Line = sym (c .before .ending .ensures) ∙ u .1 .given .1 in
+          (λ u. let x : endedBy (i .skipping) (i .field) (s .held) (getD p (s .at) 0) ≡ ended.Line = sym (c .before .ending .ensures .0) ∙ u .1 .given .1 in
           let y : packetFault (packetOf (set (i .numbers) 7 (s .held - 1))) ≡ judged.Fine = sym (u .5 .ensures .0) ∙ u .7 .given .1 in
           rw (u .8, u .9, u .10, u .11, u .12, u .13, rw (u .7 .given .1) at (u .5 .ensures .1), add-one (i .lines)) (rw (x, lt-ltb (i .lines) 50000 (u .2 .left), y) at left))
-          (λ u. let x : endedBy (i .skipping) (i .field) (s .held) (getD p (s .at) 0) ≡ ended.Wrong (u .1 .given .0 .0) = sym (c .before .ending .ensures) ∙ u .1 .given .1 in
+          (λ u. let x : endedBy (i .skipping) (i .field) (s .held) (getD p (s .at) 0) ≡ ended.Wrong (u .1 .given .0 .0) = sym (c .before .ending .ensures .0) ∙ u .1 .given .1 in
           rw (u .3, u .4, u .5, u .6, u .7, u .8) (rw x at left)))
           (c .match .came),
     )
@@ -241,32 +139,32 @@ read-fields-spec =
     (tie.spec
     Inv-loop
     μ-loop
-    loop-holds
-    digits-requires
-    shared-slice-read-ending
-    ending-requires
-    enum-told
+    (λ c. search needs)
+    (λ c κs. search needs)
+    (λ c. search needs)
+    (λ c κs. search needs)
+    (λ c. search needs)
     sub-numbers
     mul-numbers
     array-write-numbers
     add-field
-    enum-told-2
-    refused-requires
+    (λ c. search needs)
+    (λ c κs. search needs)
     returns
     sub-numbers-2
-    array-write-numbers-2
-    end-line-requires
-    enum-known-f
-    add-refused
-    refused-requires-2
+    (λ c. search needs)
+    (λ c κs. search needs)
+    (λ c. search needs)
+    (λ c. search needs)
+    (λ c κs. search needs)
     returns-2
-    enum-told-3
-    add-lines
-    enum-known-k
-    enum-known-k-2
-    refused-line-requires
+    (λ c. search needs)
+    (λ c. search needs)
+    (λ c. search needs)
+    (λ c. search needs)
+    (λ c κs. search needs)
     returns-3
-    add-at
+    (λ c. search needs)
     loop-less
     loop-again
     returns-4

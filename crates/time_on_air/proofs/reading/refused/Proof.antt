@@ -1,10 +1,9 @@
+-- `time_on_air::reading::refused` meets its contract: a fault stays, whatever follows.
+-- Assumes nothing.
 use mathlib.Core.Path.{refl}
 use Rattle.time_on_air.specs.Onward.{comesTo}
-use borrow.Author.Needs.{needs}
 use Rattle.time_on_air.proofs.reading.refused.Statement.{statement}
 use Rattle.time_on_air.proofs.reading.refused.Tie as tie
-use Rattle.time_on_air.proofs.reading.refused.Reads as reads
-use Rattle.time_on_air.proofs.reading.refused.Lts as lts
 
 returns : tie.Need-returns
 unfolding comesTo

@@ -1,10 +1,9 @@
+-- `time_on_air::reading::start` meets its contract: read from the start, a text comes to its report (`from-start`).
+-- Assumes nothing.
 use Rattle.time_on_air.specs.Onward.{comesTo}
 use Rattle.time_on_air.proofs.Whole.{from-start}
-use borrow.Author.Needs.{needs}
 use Rattle.time_on_air.proofs.reading.start.Statement.{statement}
 use Rattle.time_on_air.proofs.reading.start.Tie as tie
-use Rattle.time_on_air.proofs.reading.start.Reads as reads
-use Rattle.time_on_air.proofs.reading.start.Lts as lts
 
 returns : tie.Need-returns
 unfolding comesTo

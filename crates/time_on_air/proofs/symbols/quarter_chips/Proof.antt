@@ -1,20 +1,13 @@
+-- `time_on_air::symbols::quarter_chips` meets its contract: the shift loses nothing.
+-- Assumes nothing.
 use mathlib.Core.Path.{_≡_, refl}
-use Prim.Native.Nat.{_≤_, _+_, _*_, _-_, _%_, _^_}
+use Prim.Native.Nat.{_≤_, _*_, _-_, _%_, _^_}
 use native.Mathlib.Omega.{arith}
-use Rattle.time_on_air.specs.Symbols.{quarterSymbols, quarterChips}
+use Rattle.time_on_air.specs.Symbols.{quarterChips}
 use Rattle.time_on_air.proofs.symbols.Bounds.{shifted, chips-bound}
 use borrow.Author.Needs.{needs}
 use Rattle.time_on_air.proofs.symbols.quarter_chips.Statement.{statement}
 use Rattle.time_on_air.proofs.symbols.quarter_chips.Tie as tie
-use Rattle.time_on_air.proofs.symbols.quarter_chips.Reads as reads
-use Rattle.time_on_air.proofs.symbols.quarter_chips.Lts as lts
-use Rattle.time_on_air.proofs.symbols.quarter_symbols.Reads as quarter-symbols-reads
-
-quarter-symbols-requires : tie.Need-quarter-symbols-requires
-quarter-symbols-requires c κs = search needs
-
-shl-result : tie.Need-shl-result
-shl-result c = search needs
 
 mul-result : tie.Need-mul-result
 unfolding quarterChips
@@ -25,4 +18,4 @@ unfolding quarterChips
 returns c = let p = c .before .before .args .p in let e : c .before .quarter-symbols .result * (1 * 2 ^ p .«spreading_factor» % 18446744073709551616) ≡ quarterChips p = rw (shifted p (c .before .before .pre), c .before .quarter-symbols .ensures .0) refl in (e, rw e (chips-bound p (c .before .before .pre)))
 
 pub quarter-chips-spec : {M : Type 1} → statement M
-quarter-chips-spec = tie.close (tie.spec quarter-symbols-requires shl-result mul-result returns)
+quarter-chips-spec = tie.close (tie.spec (λ c κs. search needs) (λ c. search needs) mul-result returns)

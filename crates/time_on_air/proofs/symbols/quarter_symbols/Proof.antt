@@ -1,68 +1,43 @@
+-- `time_on_air::symbols::quarter_symbols` meets its contract: bits below 0 make no symbols (`above-zero`).
+-- Assumes nothing.
 use mathlib.Core.Path.{_≡_, refl}
-use Prim.Native.Nat.{_≤_, _+_, _*_, _-_}
+use Prim.Native.Nat.{_+_, _*_, _-_}
 use native.Mathlib.Omega.{arith}
 use Rattle.sheets.specs.Modem.{optimize}
-use Rattle.time_on_air.specs.Symbols.{quarterSymbols}
-use Rattle.time_on_air.proofs.symbols.Bounds.{optimize-flag, symbols-bound}
+use Rattle.time_on_air.specs.Symbols.{codedBits, quarterSymbols}
+use Rattle.time_on_air.proofs.symbols.Bounds.{optimize-flag, above-zero, symbols-bound}
 use borrow.Author.Needs.{needs}
 use Rattle.time_on_air.proofs.symbols.quarter_symbols.Statement.{statement}
 use Rattle.time_on_air.proofs.symbols.quarter_symbols.Tie as tie
-use Rattle.time_on_air.proofs.symbols.quarter_symbols.Reads as reads
-use Rattle.time_on_air.proofs.symbols.quarter_symbols.Lts as lts
-use Rattle.modem.proofs.low_data_rate.low_data_rate_optimize.Reads as low-data-rate-optimize-reads
-use Rattle.time_on_air.proofs.symbols.coded_bits.Reads as coded-bits-reads
-use Rattle.time_on_air.proofs.symbols.coded_symbols.Reads as coded-symbols-reads
-
-cast-low-data-rate-optimize : tie.Need-cast-low-data-rate-optimize
-cast-low-data-rate-optimize c = search needs
-
-cast-low-data-rate-optimize-2 : tie.Need-cast-low-data-rate-optimize-2
-cast-low-data-rate-optimize-2 c = search needs
-
-low-data-rate-optimize-requires : tie.Need-low-data-rate-optimize-requires
-low-data-rate-optimize-requires c κs = search needs
-
-coded-bits-requires : tie.Need-coded-bits-requires
-coded-bits-requires c κs = search needs
-
-cast-coded-symbols : tie.Need-cast-coded-symbols
-cast-coded-symbols c = search needs
 
 coded-symbols-requires : tie.Need-coded-symbols-requires
 coded-symbols-requires c κs = let p = c .before .before .before .args .p in omega (arith, optimize-flag (p .«spreading_factor») (p .bandwidth), c .before .low-data-rate-optimize .ensures)
 
-mul-result : tie.Need-mul-result
-mul-result c = search needs
-
-add-result : tie.Need-add-result
-add-result c = search needs
-
-add-result-2 : tie.Need-add-result-2
-add-result-2 c = search needs
-
-mul-result-2 : tie.Need-mul-result-2
-mul-result-2 c = search needs
-
-add-result-3 : tie.Need-add-result-3
-add-result-3 c = search needs
-
 returns : tie.Need-returns
 unfolding quarterSymbols
-returns c = let p = c .before .before .before .before .before .args .p in let e : 4 * p .preamble + 17 + 4 * (8 + c .before .coded-symbols .result) ≡ quarterSymbols p = rw (c .before .coded-symbols .ensures .0, c .before .before .coded-bits .ensures .0, c .before .before .before .low-data-rate-optimize .ensures) refl in (e, rw e (symbols-bound p (c .before .before .before .before .before .pre)))
+returns c =
+    let k = c .before .before .before .before .before in
+    let p = k .args .p in
+    let sf = p .«spreading_factor» in
+    let bits = codedBits sf (p .length) (p .«implicit_header») (p .«crc_on») in
+    let flat = above-zero sf (optimize sf (p .bandwidth)) (p .«coding_rate») bits (k .pre .sf-low) (optimize-flag sf (p .bandwidth)) in
+    let e : 4 * p .preamble + 17 + 4 * (8 + c .before .coded-symbols .result) ≡ quarterSymbols p =
+    rw (c .before .coded-symbols .ensures .0, c .before .before .coded-bits .ensures .0, c .before .before .before .low-data-rate-optimize .ensures, flat) refl in
+    (e, rw e (symbols-bound p (k .pre)))
 
 pub quarter-symbols-spec : {M : Type 1} → statement M
 quarter-symbols-spec =
     tie.close
     (tie.spec
-    cast-low-data-rate-optimize
-    cast-low-data-rate-optimize-2
-    low-data-rate-optimize-requires
-    coded-bits-requires
-    cast-coded-symbols
+    (λ c. search needs)
+    (λ c. search needs)
+    (λ c κs. search needs)
+    (λ c κs. search needs)
+    (λ c. search needs)
     coded-symbols-requires
-    mul-result
-    add-result
-    add-result-2
-    mul-result-2
-    add-result-3
+    (λ c. search needs)
+    (λ c. search needs)
+    (λ c. search needs)
+    (λ c. search needs)
+    (λ c. search needs)
     returns)

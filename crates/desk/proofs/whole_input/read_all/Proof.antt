@@ -1,12 +1,12 @@
--- `whole_input::read_all` meets its contract: what was read lies at the start of the buffer.
+-- `desk::whole_input::read_all` meets its contract: what was read lies at the start of the buffer.
 -- Assumes nothing.
 use mathlib.Core.Path.{_≡_, sym}
 use Prim.Native.Nat.{_-_, _≤_}
 use lib.ListN.{length}
 use lib.Seq.{length-take-le}
 use borrow.Author.Needs.{needs}
-use Rattle.whole_input.proofs.read_all.Statement.{statement}
-use Rattle.whole_input.proofs.read_all.Tie as tie
+use Rattle.desk.proofs.whole_input.read_all.Statement.{statement}
+use Rattle.desk.proofs.whole_input.read_all.Tie as tie
 
 abbrev Inv-loop : tie.InvT-loop
 Inv-loop fd buf₀ n₀ buf n = (n ≤ length buf) × (length buf ≡ length buf₀)

@@ -2,8 +2,8 @@
 use mathlib.Core.List.{List}
 use Prim.Native.Nat.{ℕ}
 use Rattle.io.specs.Counts.{Counts}
-use Rattle.whole_input.specs.declared.Input.{Input}
-use Rattle.whole_input.specs.declared.Input.the-variants.{Whole, More, Failed}
+use Rattle.desk.specs.declared.whole_input.Input.{Input}
+use Rattle.desk.specs.declared.whole_input.Input.the-variants.{Whole, More, Failed}
 
 abbrev pub Within : Input → List ℕ → Type 0
 Within (Whole n) s = Counts n s

@@ -1,5 +1,5 @@
 // An input read whole into a lent buffer.
-ghost use Rattle.whole_input.specs.Within.{Within};
+ghost use Rattle.desk.specs.Within.{Within};
 
 pub enum Input {
     Whole(usize),
