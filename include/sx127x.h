@@ -363,7 +363,7 @@ int32_t sx127x_read_link(const uint8_t *image, uint64_t image_len, uint8_t board
  *
  * To print a file's totals, or which of its lines is bad (with <inttypes.h> and <stdio.h>; examples/c/airtime.c):
  *
- *   static uint8_t text[SX127X_MAX_LINES * SX127X_MAX_LINE_SIZE + 1];   a longer file is refused by its start
+ *   static uint8_t text[SX127X_MAX_LINES * SX127X_MAX_LINE_SIZE + 1];   of a longer file the start is refused too
  *   int64_t results[SX127X_MAX_RESULTS];
  *   FILE *file = fopen("depot.txt", "rb");
  *   if (file == NULL) {
