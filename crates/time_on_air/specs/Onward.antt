@@ -15,6 +15,9 @@ use Rattle.time_on_air.specs.declared.packet.Packet.{Packet}
 use Rattle.time_on_air.specs.declared.packet.Judged.{Judged}
 use Rattle.time_on_air.specs.declared.packet.Judged.the-variants.{Fine, Wrong}
 use Rattle.time_on_air.specs.declared.reading.Reading.{Reading}
+use Rattle.time_on_air.specs.declared.turns.Place.{Place}
+use Rattle.time_on_air.specs.declared.turns.Turn.{Turn}
+use Rattle.time_on_air.specs.declared.turns.Turn.the-variants.{On, Bad}
 use Rattle.time_on_air.specs.Packet.{packetFault}
 use Rattle.time_on_air.specs.Symbols.{quarterChips}
 use Rattle.time_on_air.specs.Lines.{tab, lf, parts, packetOf}
@@ -128,10 +131,6 @@ late = bad Late (suc mostLines)
 abbrev pub badLine : LineFault → ℕ → Outcome
 badLine f lines = cond (ltb lines mostLines) (bad f (suc lines)) late
 
--- a line without an end
-abbrev pub unended : ℕ → Outcome
-unended lines = badLine Open lines
-
 abbrev pub orBad : ℕ → Judged → Outcome → Outcome
 orBad n Fine next = next
 orBad n (Wrong f) next = bad f n
@@ -139,7 +138,7 @@ orBad n (Wrong f) next = bad f n
 abbrev pub onward : ℕ → List ℕ → Bool → List ℕ → ℕ → ℕ → List (List ℕ) → Outcome
 onward lines sums skipping ns k held [] = late
 onward lines sums skipping ns k held (rest ∷ []) =
-    cond (begun skipping k held rest) (unended lines) (sent (rounded sums))
+    cond (begun skipping k held rest) (badLine Open lines) (sent (rounded sums))
 onward lines sums skipping ns k held (line ∷ m ∷ ls) =
     cond (ltb lines mostLines)
     (orBad (suc lines) (saidFault (lineFrom skipping ns k held line))
@@ -153,17 +152,17 @@ abbrev pub unlessBad : AirtimeAnswer → Outcome → Outcome
 unlessBad Totals o = o
 unlessBad (BadLine f n) o = bad f n
 
+abbrev pub from : Place → List ℕ → List ℕ → List (List ℕ) → Outcome
+from p sums ns ps = onward (p .lines) sums (p .skipping) ns (p .field) (p .held) ps
+
 abbrev pub goesTo : Reading → List ℕ → Outcome
-goesTo r text = onward (r .lines) (r .sums) (r .skipping) (r .numbers) (r .field) (r .held) (parts lf text)
+goesTo r text = from (r .place) (r .sums) (r .numbers) (parts lf text)
 
 unfoldable pub comesTo : Reading → List ℕ → Outcome
 comesTo r text = unlessBad (r .answer) (goesTo r text)
 
 abbrev pub Refuses : LineFault → ℕ → Reading → Type 0
-Refuses f line r = (text : List ℕ) → comesTo r text ≡ bad f line
-
-abbrev pub RefusesLine : LineFault → ℕ → Reading → Type 0
-RefusesLine f lines r = (text : List ℕ) → comesTo r text ≡ badLine f lines
+Refuses f lines r = (text : List ℕ) → comesTo r text ≡ badLine f lines
 
 abbrev pub GoesOn : Reading → List ℕ → Reading → Type 0
 GoesOn before piece after = (text : List ℕ) → comesTo after text ≡ goesTo before (piece ++ text)
@@ -174,3 +173,24 @@ Continues before piece after = (text : List ℕ) → comesTo after text ≡ come
 
 abbrev pub Begins : Reading → Type 0
 Begins r = (text : List ℕ) → comesTo r text ≡ outcomeOf (verdict text) (totals text)
+
+-- ---- a turn, behind which these parts are left
+
+abbrev pub turned : Turn → ℕ → List ℕ → List ℕ → List (List ℕ) → Outcome
+turned (On p) lines sums ns ps = from p sums ns ps
+turned (Bad f) lines sums ns ps = badLine f lines
+
+-- a byte that is no digit of a number is taken
+abbrev pub Turned : List ℕ → List ℕ → Place → ℕ → Turn → List ℕ → List ℕ → Type 0
+Turned sums ns p b turn sums′ ns′ =
+    (text : List ℕ) → turned turn (p .lines) sums′ ns′ (parts lf text) ≡ from p sums ns (parts lf (b ∷ text))
+
+-- the eighth number is held, and its line ends
+abbrev pub lineEnds : List ℕ → List ℕ → Place → List (List ℕ) → Outcome
+lineEnds sums ns p ps =
+    let ms = set ns 7 (p .held - 1) in
+    cond (ltb (p .lines) mostLines)
+    (orBad (suc (p .lines)) (packetFault (packetOf ms)) (onward (suc (p .lines)) (added sums (packetOf ms)) (p .skipping) ms 0 0 ps)) late
+
+abbrev pub LineEnds : List ℕ → List ℕ → Place → Turn → List ℕ → List ℕ → Type 0
+LineEnds sums ns p turn sums′ ns′ = (ps : List (List ℕ)) → turned turn (p .lines) sums′ ns′ ps ≡ lineEnds sums ns p ps

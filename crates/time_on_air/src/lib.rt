@@ -8,6 +8,7 @@ pub mod packet;
 pub mod reading;
 pub mod symbols;
 mod totals;
+mod turns;
 
 pub use reading::Reading;
 pub use reading::feed;

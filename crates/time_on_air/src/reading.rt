@@ -1,28 +1,22 @@
 // A depot's file read piece after piece: what was read goes in and comes out by value, and at the end it is the report on all pieces.
 ghost use mathlib.Core.Path.{_≡_};
 ghost use mathlib.Core.List.{[]};
-ghost use Rattle.time_on_air.specs.Onward.{Begins, Continues, Ends, GoesOn, Refuses, RefusesLine, answerOf, comesTo, unended as unendedBy};
-use crate::fields::Ended;
+ghost use Rattle.time_on_air.specs.Onward.{Begins, Continues, Ends, GoesOn, Refuses, answerOf, badLine, begun, comesTo};
 use crate::fields::digits;
-use crate::fields::ending;
-use crate::packet::Judged;
-use crate::totals::end_line;
 use crate::totals::totals_of;
+use crate::turns::MOST_LINES;
+use crate::turns::Place;
+use crate::turns::Turn;
+use crate::turns::take_byte;
 use params::answers::AirtimeAnswer;
 use params::line_faults::LineFault;
 
-const MOST_LINES: u64 = 50_000;
-
-// The answer so far, the lines that ended and their sums; then of the line that has not ended the numbers of the fields that
-// have, which field it is in, the number that is held of it, and whether a field is wrong, so that the line is skipped.
+// The answer so far, where the reading is, the sums of the lines that ended, and the numbers of the fields that ended since.
 pub struct Reading {
     answer: AirtimeAnswer,
-    lines: u64,
+    place: Place,
     sums: [u64; 10],
     numbers: [u64; 8],
-    field: usize,
-    held: u64,
-    skipping: bool,
 }
 
 pub fn start() -> Reading
@@ -30,39 +24,39 @@ pub fn start() -> Reading
 {
     Reading {
         answer: AirtimeAnswer::Totals,
-        lines: 0,
+        place: Place {
+            lines: 0,
+            field: 0,
+            held: 0,
+            skipping: false,
+        },
         sums: [0; 10],
         numbers: [0; 8],
-        field: 0,
-        held: 0,
-        skipping: false,
     }
 }
 
-fn refused(r: Reading, fault: LineFault, line: u64) -> Reading
-    ensures { λ s. ⌜ Refuses fault line s ⌝ }
+// The line behind so many lines is bad; each line after the 50,000th is refused for that alone.
+fn bad_line(fault: LineFault, lines: u64) -> AirtimeAnswer
+    ensures { λ a. ⌜ a ≡ answerOf (badLine fault lines) ⌝ }
 {
+    if lines < MOST_LINES {
+        AirtimeAnswer::BadLine(fault, lines + 1)
+    } else {
+        AirtimeAnswer::BadLine(LineFault::Late, 50_001)
+    }
+}
+
+fn refused(r: Reading, fault: LineFault, lines: u64) -> Reading
+    ensures { λ s. ⌜ Refuses fault lines s ⌝ }
+{
+    let stays = r.place;
     let sums = r.sums;
     let numbers = r.numbers;
     Reading {
-        answer: AirtimeAnswer::BadLine(fault, line),
-        lines: r.lines,
+        answer: bad_line(fault, lines),
+        place: stays,
         sums,
         numbers,
-        field: r.field,
-        held: r.held,
-        skipping: r.skipping,
-    }
-}
-
-// The line behind so many lines; each line after the 50,000th is refused for that alone.
-fn refused_line(r: Reading, fault: LineFault, lines: u64) -> Reading
-    ensures { λ s. ⌜ RefusesLine fault lines s ⌝ }
-{
-    if lines < MOST_LINES {
-        refused(r, fault, lines + 1)
-    } else {
-        refused(r, LineFault::Late, 50_001)
     }
 }
 
@@ -71,54 +65,26 @@ fn read_fields(r: Reading, piece: &[u8]) -> Reading
 {
     let mut sums = r.sums;
     let mut numbers = r.numbers;
-    let mut lines = r.lines;
-    let mut field = r.field;
-    let mut held = r.held;
-    let mut skipping = r.skipping;
+    let mut place = r.place;
     let mut at = 0;
     while at < piece.len() {
-        let run = digits(piece, at, held);
+        let run = digits(piece, at, place.held);
         at = run.at;
-        held = run.held;
+        place.held = run.held;
         if at == piece.len() {
             break;
         }
-        match ending(skipping, field, held, piece[at]) {
-            Ended::Field => {
-                numbers[field] = held - 1;
-                field += 1;
-                held = 0;
-            }
-            Ended::Line => {
-                if lines >= MOST_LINES {
-                    return refused(r, LineFault::Late, 50_001);
-                }
-                numbers[7] = held - 1;
-                match end_line(&mut sums, &numbers) {
-                    Judged::Wrong(f) => return refused(r, f, lines + 1),
-                    Judged::Fine => {
-                        lines += 1;
-                        field = 0;
-                        held = 0;
-                    }
-                }
-            }
-            Ended::Wrong(k) => {
-                skipping = true;
-                field = k;
-            }
-            Ended::WrongLine(k) => return refused_line(r, LineFault::Form(k), lines),
+        match take_byte(&mut sums, &mut numbers, place, piece[at]) {
+            Turn::On(next) => place = next,
+            Turn::Bad(f) => return refused(r, f, place.lines),
         }
         at += 1;
     }
     Reading {
         answer: AirtimeAnswer::Totals,
-        lines,
+        place,
         sums,
         numbers,
-        field,
-        held,
-        skipping,
     }
 }
 
@@ -132,15 +98,17 @@ pub fn feed(r: Reading, piece: &[u8]) -> Reading
     }
 }
 
-// A line without an end.
-fn unended(lines: u64) -> AirtimeAnswer
-    ensures { λ a. ⌜ a ≡ answerOf (unendedBy lines) ⌝ }
+// Something was read of the line that has not ended.
+fn has_begun(p: Place) -> bool
+    ensures { λ r. ⌜ r ≡ begun (p .skipping) (p .field) (p .held) [] ⌝ }
 {
-    if lines < MOST_LINES {
-        AirtimeAnswer::BadLine(LineFault::Open, lines + 1)
-    } else {
-        AirtimeAnswer::BadLine(LineFault::Late, 50_001)
+    if p.skipping {
+        return true;
     }
+    if p.field != 0 {
+        return true;
+    }
+    p.held != 0
 }
 
 pub fn finish(r: Reading, totals: &mut [u64; 10]) -> AirtimeAnswer
@@ -150,14 +118,9 @@ pub fn finish(r: Reading, totals: &mut [u64; 10]) -> AirtimeAnswer
     let AirtimeAnswer::Totals = answer else {
         return answer;
     };
-    if r.skipping {
-        return unended(r.lines);
-    }
-    if r.field != 0 {
-        return unended(r.lines);
-    }
-    if r.held != 0 {
-        return unended(r.lines);
+    let place = r.place;
+    if has_begun(place) {
+        return bad_line(LineFault::Open, place.lines);
     }
     let sums = r.sums;
     *totals = totals_of(sums);

@@ -3,15 +3,15 @@
 -- Assumes nothing.
 use mathlib.Core.Path.{_≡_, sym, _∙_}
 use mathlib.Core.Bool.{Bool}
-use mathlib.Core.List.{List, _++_}
+use mathlib.Core.List.{List, _∷_, _++_}
 use Prim.Native.Nat.{ℕ, _+_, _≤_, _<_}
 use native.Mathlib.Numerals.{add-one}
 use lib.ListN.{length, drop, getD, drop-of-length-le}
 use lib.Seq.{drop-cons}
 use Rattle.time_on_air.specs.Lines.{lf, parts}
 use Rattle.time_on_air.specs.Onward.{Outcome, onward}
-use Rattle.time_on_air.specs.Fields.{Stopped, endedBy}
-use Rattle.time_on_air.proofs.Onward.{run, ends, ending}
+use Rattle.time_on_air.specs.Fields.{Stopped}
+use Rattle.time_on_air.proofs.Onward.{run}
 
 module _ (piece : List ℕ) (n : ℕ) (sums : List ℕ) (w : Bool) (ns : List ℕ) (k held at : ℕ) (whole : List ℕ → Outcome) (left : (t : List ℕ) → onward n sums w ns k held (parts lf (drop at piece ++ t)) ≡ whole t) where
   module _ (at′ held′ : ℕ) (s : Stopped piece at held at′ held′) where
@@ -21,8 +21,6 @@ module _ (piece : List ℕ) (n : ℕ) (sums : List ℕ) (w : Bool) (ns : List �
     pub piece-ends : length piece ≤ at′ → (t : List ℕ) → onward n sums w ns k held′ (parts lf t) ≡ whole t
     piece-ends l t = rw (drop-of-length-le piece l) at (behind-digits t)
 
-    pub byte-ends : at′ < length piece → (t : List ℕ)
-        → ends n sums w ns k held′ (endedBy w k held′ (getD piece at′ 0)) (parts lf (drop (at′ + 1) piece ++ t)) ≡ whole t
-    byte-ends l t =
-        sym (ending n sums w ns k held′ (getD piece at′ 0) (drop (at′ + 1) piece ++ t) (s .stops l))
-        ∙ rw (add-one at′) (rw (drop-cons piece at′ 0 l) at (behind-digits t))
+    pub byte-left : at′ < length piece → (t : List ℕ)
+        → onward n sums w ns k held′ (parts lf (getD piece at′ 0 ∷ (drop (at′ + 1) piece ++ t))) ≡ whole t
+    byte-left l t = rw (add-one at′) (rw (drop-cons piece at′ 0 l) at (behind-digits t))

@@ -2,10 +2,10 @@ use native.Mathlib.Nat.{div-le-self, mul-le-mul, le-trans, lt-of-le-of-lt}
 -- `time_on_air::symbols::coded_symbols` meets its contract: its sums are those of the definition, and small.
 -- Assumes nothing.
 use mathlib.Core.Path.{refl}
-use Prim.Native.Nat.{_≤_, _+_, _*_, _-_}
+use Prim.Native.Nat.{_-_}
 use native.Mathlib.Omega.{arith}
-use Rattle.time_on_air.specs.Symbols.{ceil, codedSymbols}
-use Rattle.time_on_air.proofs.symbols.Bounds.{groups-bound, coded-bound}
+use Rattle.time_on_air.specs.Symbols.{codedSymbols}
+use Rattle.time_on_air.proofs.symbols.Bounds.{coded-bound}
 use borrow.Author.Needs.{needs}
 use Rattle.time_on_air.proofs.symbols.coded_symbols.Statement.{statement}
 use Rattle.time_on_air.proofs.symbols.coded_symbols.Tie as tie
