@@ -2,7 +2,6 @@
 ghost use mathlib.Core.Path.{_≡_};
 ghost use Prim.Native.Nat.{_+_, _≤_};
 ghost use lib.ListN.{length};
-ghost use Rattle.text.specs.Fields.{fieldAt};
 ghost use Rattle.text.specs.Text.{Appended};
 ghost use Rattle.params.specs.declared.line_faults.LineFault.the-variants.{Form};
 ghost use Rattle.time_on_air.specs.FaultWords.{named, head, phrase, wordsOf};

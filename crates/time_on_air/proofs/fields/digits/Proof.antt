@@ -1,13 +1,13 @@
 -- `time_on_air::fields::digits` meets its contract: the loop's invariant is that what is left gives the whole.
 -- Assumes nothing.
 use mathlib.Core.Path.{_≡_, sym, _∙_}
-use mathlib.Core.Bool.{true, false}
+use mathlib.Core.Bool.{true}
 use Prim.Native.Nat.{_≤_, _<_, _-_}
 use native.Mathlib.Omega.{arith}
 use lib.ListN.{length, drop, getD}
 use Rattle.time_on_air.specs.Onward.{goesOn}
 use Rattle.time_on_air.specs.Fields.{taken, after}
-use Rattle.time_on_air.proofs.fields.Digit.{below-digits, on-taken, on-after, stop-taken, stop-after, end-taken, end-after}
+use Rattle.time_on_air.proofs.fields.Digit.{below-digits, on-taken, on-after, stops-at-byte, stops-at-end}
 use borrow.Author.Needs.{needs}
 use Rattle.time_on_air.proofs.fields.digits.Statement.{statement}
 use Rattle.time_on_air.proofs.fields.digits.Tie as tie
@@ -22,16 +22,9 @@ returns : tie.Need-returns Inv-loop μ-loop
 returns c =
     let k = c .before .before in
     let i = k .before .loop in
-    let p = k .before .before .before .args .piece .now in
-    let g : goesOn (i .h) (getD p (i .at) 0) ≡ false = below-digits (i .h) (getD p (i .at) 0) (c .if1 .taken) in
-    let l : i .at < length p = k .loop-test .taken in
-    record {
-      ahead = i .inv .1;
-      within = i .inv .0;
-      holds = sym (i .inv .2) ∙ stop-taken p (i .at) (i .h) l g;
-      leaves = sym (i .inv .3) ∙ stop-after p (i .at) (i .h) l g;
-      stops = λ m. g;
-    }
+    let a = k .before .before .before .args in
+    let p = a .piece .now in
+    stops-at-byte p (a .from) (a .held) (i .at) (i .h) (i .inv .1) (i .inv .0) (i .inv .2) (i .inv .3) (k .loop-test .taken) (below-digits (i .h) _ (c .if1 .taken))
 
 more-requires : tie.Need-more-requires Inv-loop μ-loop
 more-requires c κs = sym (c .before .goes-on .ensures) ∙ c .if2 .taken
@@ -49,29 +42,17 @@ returns-2 : tie.Need-returns-2 Inv-loop μ-loop
 returns-2 c =
     let k = c .before .before .before .before in
     let i = k .before .loop in
-    let p = k .before .before .before .args .piece .now in
-    let g : goesOn (i .h) (getD p (i .at) 0) ≡ false = sym (c .before .goes-on .ensures) ∙ c .if2 .left in
-    let l : i .at < length p = k .loop-test .taken in
-    record {
-      ahead = i .inv .1;
-      within = i .inv .0;
-      holds = sym (i .inv .2) ∙ stop-taken p (i .at) (i .h) l g;
-      leaves = sym (i .inv .3) ∙ stop-after p (i .at) (i .h) l g;
-      stops = λ m. g;
-    }
+    let a = k .before .before .before .args in
+    let p = a .piece .now in
+    stops-at-byte p (a .from) (a .held) (i .at) (i .h) (i .inv .1) (i .inv .0) (i .inv .2) (i .inv .3) (k .loop-test .taken) (sym (c .before .goes-on .ensures) ∙ c .if2 .left)
 
 returns-3 : tie.Need-returns-3 Inv-loop μ-loop
 returns-3 c =
-    let i = c .before .loop in
-    let p = c .before .before .before .args .piece .now in
-    let l : length p ≤ i .at = c .loop-test .left in
-    record {
-      ahead = i .inv .1;
-      within = i .inv .0;
-      holds = sym (i .inv .2) ∙ end-taken p (i .at) (i .h) l;
-      leaves = sym (i .inv .3) ∙ end-after p (i .at) (i .h) l;
-      stops = λ m. absurd (omega arith);
-    }
+    let k = c in
+    let i = k .before .loop in
+    let a = k .before .before .before .args in
+    let p = a .piece .now in
+    stops-at-end p (a .from) (a .held) (i .at) (i .h) (i .inv .1) (i .inv .0) (i .inv .2) (i .inv .3) (c .loop-test .left)
 
 pub digits-spec : {M : Type 1} → statement M
 digits-spec =
