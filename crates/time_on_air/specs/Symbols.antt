@@ -43,7 +43,7 @@ pub worked-example : quarterSymbols (record { id = 0; «spreading_factor» = 7; 
 unfolding quarterSymbols codedSymbols codedBits optimize symbolTime bandwidths
 worked-example = refl
 
--- a packet cannot last longer: 50,000 of these (at 7.8 kHz) fill the largest sum that there is, and 250,000 times as much fits 64 bits
+-- 50,000 packets of SF12, 4/8, preamble 65,535 and 255 bytes (here at 7.8 kHz): 250,000 times as much fits 64 bits, and no sign beside it
 pub longest : 50000 * quarterChips (record { id = 0; «spreading_factor» = 12; bandwidth = 0; «coding_rate» = 4; preamble = 65535; length = 255; «implicit_header» = 0; «crc_on» = 1 }) ≡ 54030540800000
 unfolding quarterChips quarterSymbols codedSymbols codedBits optimize symbolTime bandwidths
 longest = refl
