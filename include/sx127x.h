@@ -224,7 +224,8 @@ int32_t sx127x_set_tx_power_and_ramp_time(uint8_t *image, uint64_t image_len, ui
 
 /* ---- modulation and packets */
 
-/* Judges a modulation. Values: spreading factor, bandwidth, coding rate, low data rate optimize, hertz.
+/* Judges a modulation. Values: spreading factor, bandwidth, coding rate, low data rate optimize, hertz. Low data rate
+ * optimize is 1 exactly where a symbol lasts longer than 16 ms: 1000 * 2^SF > 16 * bandwidth in Hz.
  * Refusals: 8 (spreading_factor, bandwidth, coding_rate), 14, 15, 16. */
 int32_t sx127x_create_modulation_params(uint8_t board, uint8_t spreading_factor, uint8_t bandwidth, uint8_t coding_rate,
                                         uint32_t frequency_in_hz, int64_t *results, uint64_t results_len);
@@ -235,7 +236,7 @@ int32_t sx127x_create_packet_params(uint16_t preamble_length, uint8_t implicit_h
                                     uint8_t crc_on, uint8_t iq_inverted, uint8_t spreading_factor, int64_t *results,
                                     uint64_t results_len);
 
-/* Sets spreading factor, bandwidth, coding rate and low data rate optimize.
+/* Sets spreading factor, bandwidth, coding rate and low data rate optimize, each as it is given.
  * Refusals: 26, 8 (spreading_factor, bandwidth, coding_rate, low_data_rate_optimize), 14, 15, 24 (11 records, on
  * the SX1272 7). */
 int32_t sx127x_set_modulation_params(uint8_t *image, uint64_t image_len, uint8_t *log, uint64_t log_len, uint64_t used,
@@ -331,7 +332,8 @@ int32_t sx127x_process_irq_event(uint8_t *image, uint64_t image_len, uint8_t *lo
 
 /* ---- whole links */
 
-/* Programs a link: network, frequency, modulation, packets and power, with the 250 us ramp.
+/* Programs a link: network, frequency, modulation, packets and power, with the 250 us ramp. Low data rate optimize is
+ * that of sx127x_create_modulation_params.
  * Refusals: 26, 8 (public_network, spreading_factor, bandwidth, coding_rate, implicit_header, crc_on, iq_inverted),
  * 14, 15, 16, 17, 23, 24 (29 records, on the SX1272 22, one more with SX127X_TCXO). */
 int32_t sx127x_program(uint8_t *image, uint64_t image_len, uint8_t *log, uint64_t log_len, uint64_t used, uint8_t board,

@@ -1,15 +1,15 @@
-# The sums of airtime, without its checks of the form: mawk -f tests/airtime.awk FILE. It is written after the sheet and document 01,
+# The sums of airtime, without its checks of the form: mawk -f tests/airtime.awk FILE. It is written after the sheet and document 02,
 # not after the Rattle: tests/programs takes totals from it, and tests/airtime-speed times both on one file.
 BEGIN {
     FS = "\t"
     split("7810 10420 15630 20830 31250 41670 62500 125000 250000 500000", hertz, " ")
 }
 
-# DE is on where a symbol lasts longer than 16 ms, by two divisions that drop the rest
+# DE is on where a symbol lasts longer than 16 ms
 {
     sf = $2
     chips = 2 ^ sf
-    de = int(1000 / int(hertz[$3 + 1] / chips)) > 16
+    de = 1000 * chips > 16 * hertz[$3 + 1]
     group = 4 * (sf - 2 * de)
     bits = 8 * $6 - 4 * sf + 28 + 16 * $8 - 20 * $7
     groups = bits > 0 ? int((bits + group - 1) / group) : 0

@@ -1,11 +1,9 @@
 //! Airtime per depot, document 02's request [1], which has no Rust side: a file of sent packets is taken apart line by
-//! line and added up in numbers that are wide enough for any of them. The optimize flag is the Rust's.
-use crate::call::{Board, Numbers, Operation, Variant};
-use crate::chip::{Chip, FIFO, IMAGE};
-use crate::driver::{ask, hertz, Question};
+//! line and added up in numbers that are wide enough for any of them.
+use crate::call::Numbers;
+use crate::driver::hertz;
+use crate::sheet::{optimize, SIX};
 use std::array;
-use std::cell::RefCell;
-use std::sync::LazyLock;
 
 /// A line's numbers: pack id, spreading factor, bandwidth, coding rate, preamble, length, implicit header, CRC.
 pub type Line = [i128; 8];
@@ -23,15 +21,24 @@ pub struct BadLine {
 
 const BAD_LINE: u8 = 28;
 
-/// The total of each bandwidth in microseconds.
-pub fn airtime(text: &[u8]) -> Result<Numbers, BadLine> {
+pub struct Totals {
+    /// Of each bandwidth.
+    pub microseconds: Numbers,
+    /// Whether a packet is of one of the six pairs.
+    pub in_the_six: bool,
+}
+
+pub fn airtime(text: &[u8]) -> Result<Totals, BadLine> {
     // Of each bandwidth the quarter symbols × 2^SF, so that nothing is rounded before the end.
     let mut sums = [0; BANDWIDTHS];
+    let mut in_the_six = false;
     for (at, bytes) in (1..).zip(text.split_inclusive(|&byte| byte == b'\n')) {
         let line = accepted(at, bytes).map_err(|refusal| BadLine { line: at, refusal })?;
         sums[line[2] as usize] += quarter_symbols(&line) << line[1];
+        in_the_six |= SIX.contains(&(line[1], line[2]));
     }
-    Ok(Numbers::of(&array::from_fn::<i128, BANDWIDTHS, _>(|bw| ceil(250_000 * sums[bw], hertz(bw as i128)))))
+    let totals = array::from_fn::<i128, BANDWIDTHS, _>(|bw| ceil(250_000 * sums[bw], hertz(bw as i128)));
+    Ok(Totals { microseconds: Numbers::of(&totals), in_the_six })
 }
 
 /// The sheet's symbols of an accepted line's packet, four times as many: preamble and 4.25, then 8 and the payload's.
@@ -91,23 +98,4 @@ fn decimal(field: &[u8]) -> Option<i128> {
     }
     // What is past every range stays there: the rest of the digits need not fit.
     Some(field.iter().fold(0, |number, digit| (number * 10 + (digit - b'0') as i128).min(1 << 64)))
-}
-
-/// The optimize flags of the spreading factors 6 to 12.
-static OPTIMIZE: LazyLock<[[i128; BANDWIDTHS]; 7]> =
-    LazyLock::new(|| array::from_fn(|sf| array::from_fn(|bw| the_rusts_optimize(6 + sf as i128, bw as i128))));
-
-fn optimize(sf: i128, bw: i128) -> i128 {
-    OPTIMIZE[sf as usize - 6][bw as usize]
-}
-
-/// The SX1276 has every bandwidth, and refuses none at this frequency.
-fn the_rusts_optimize(sf: i128, bw: i128) -> i128 {
-    let board = Board { variant: Variant::Sx1276, tcxo_used: false, tx_boost: false, rx_boost: false };
-    let arguments = &[sf, bw, 1, 868_100_000];
-    let question = Question { board, operation: Operation::CreateModulationParams, arguments };
-    let chip = RefCell::new(Chip::new([0; IMAGE], [0; FIFO]));
-    let answer = ask(&question, &chip, &mut []).expect("create_modulation_params does not panic");
-    assert_eq!(answer.number, 0, "SF{sf} at bandwidth {bw} is refused");
-    answer.values[3]
 }

@@ -260,6 +260,8 @@ pub struct Outcome {
     pub log: Vec<u8>,
     pub used: usize,
     pub source: Source,
+    /// Whether it holds the optimize flag of one of the six pairs, which is the sheet's and not the Rust's.
+    pub in_the_six: bool,
 }
 
 fn fill(to: &mut Vec<u8>, from: &[u8]) {
@@ -278,6 +280,7 @@ impl Outcome {
             log: Vec::new(),
             used: 0,
             source: Source::Ours,
+            in_the_six: false,
         }
     }
 
@@ -291,6 +294,7 @@ impl Outcome {
         fill(&mut self.log, &call.log);
         self.used = call.used;
         self.source = Source::Ours;
+        self.in_the_six = false;
     }
 
     /// Whether all is the same that a caller sees; a panic is never the same as anything.

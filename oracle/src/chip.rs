@@ -44,6 +44,11 @@ impl Chip {
         &self.log[..self.used]
     }
 
+    /// The records, to be put otherwise where the sheet wants it.
+    pub fn records_mut(&mut self) -> impl Iterator<Item = &mut [u8]> {
+        self.log[..self.used].chunks_exact_mut(3)
+    }
+
     /// Forgets the records; registers and FIFO stay.
     pub fn rewind(&mut self) {
         self.used = 0;

@@ -1,4 +1,5 @@
-//! The oracle: what a call of the driver is to answer, told by the unchanged Rust over a mock bus and pins.
+//! The oracle: what a call of the driver is to answer, told by the unchanged Rust over a mock bus and pins, and by
+//! the sheet where document 02 wants it.
 pub mod airtime;
 pub mod call;
 pub mod chip;
@@ -11,6 +12,7 @@ pub mod random;
 pub mod reader;
 pub mod rules;
 pub mod run;
+pub mod sheet;
 pub mod text;
 pub mod texts;
 

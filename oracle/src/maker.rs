@@ -1,9 +1,10 @@
 //! Makes calls: what `record` and `compare` share of their arguments, images, logs and buffers.
 use crate::call::{Argument, Board, Call, Numbers, Operation, Variant};
 use crate::chip::{Chip, FIFO, IMAGE};
-use crate::driver::{ask, Question};
+use crate::driver::{Answer, Question};
 use crate::random::Random;
 use crate::rules::records;
+use crate::sheet;
 use crate::texts::{accepted_line, any_line, put, spoil};
 use std::cell::RefCell;
 
@@ -56,6 +57,17 @@ fn reset_image(variant: Variant) -> [u8; IMAGE] {
         image[address as usize] = value;
     }
     image
+}
+
+type Ask = fn(&Question, &RefCell<Chip>, &mut [u8]) -> Result<Answer, String>;
+
+/// What whole programming of an accepted link leaves: of the Rust by itself (`driver::ask`), or as it is to be (`sheet::ask`).
+pub fn programmed(ask: Ask, board: Board, link: &[i128], start: [u8; IMAGE]) -> [u8; IMAGE] {
+    let chip = RefCell::new(Chip::new(start, [0; FIFO]));
+    let question = Question { board, operation: Operation::Program, arguments: link };
+    let answer = ask(&question, &chip, &mut []).expect("an accepted link is programmed");
+    assert_eq!(answer.number, 0, "an accepted link is refused: {link:?}");
+    chip.into_inner().image
 }
 
 /// A call in the making, which is used again for the next one.
@@ -153,12 +165,16 @@ impl Maker {
 
     /// What an accepted link leaves, from a random start.
     fn linked_image(&mut self, board: Board) -> [u8; IMAGE] {
-        let chip = RefCell::new(Chip::new(self.random_image(), [0; FIFO]));
+        let start = self.random_image();
         let link = self.accepted_link(board.variant);
-        let question = Question { board, operation: Operation::Program, arguments: &link };
-        let answer = ask(&question, &chip, &mut []).expect("an accepted link is programmed");
-        assert_eq!(answer.number, 0, "an accepted link is refused: {link:?}");
-        chip.into_inner().image
+        programmed(sheet::ask, board, &link, start)
+    }
+
+    /// An accepted link of one of the six pairs.
+    pub fn accepted_link_of(&mut self, variant: Variant, (sf, bw): (i128, i128)) -> Numbers {
+        let mut link = self.accepted_link(variant);
+        (link[1], link[2], link[4]) = (sf, bw, link[4].max(400_000_000));
+        link
     }
 
     /// Arguments of `program` that no refusal meets.

@@ -1,8 +1,10 @@
 //! The link reader, which has no Rust side: the registers are taken apart, and what they say is then programmed by the
-//! Rust over the very image. It is a link exactly when the Rust takes it and leaves every byte as it is.
+//! Rust, with the sheet's optimize flag, over the very image. It is a link exactly when the Rust takes it and every byte
+//! is left as it is.
 use crate::call::{Board, Numbers, Operation, Variant};
 use crate::chip::{Chip, FIFO, IMAGE};
-use crate::driver::{ask, Question};
+use crate::driver::Question;
+use crate::sheet::ask;
 use std::cell::RefCell;
 use std::ops::RangeInclusive;
 
@@ -15,7 +17,7 @@ pub fn read_link(board: Board, image: &[u8; IMAGE]) -> Option<Numbers> {
     changes_nothing(board, Operation::Program, &link, image).then_some(link)
 }
 
-/// Whether the Rust does it and leaves the image as it is.
+/// Whether the Rust does it and the image is left as it is.
 fn changes_nothing(board: Board, operation: Operation, arguments: &[i128], image: &[u8; IMAGE]) -> bool {
     let chip = RefCell::new(Chip::new(*image, [0; FIFO]));
     let answer = ask(&Question { board, operation, arguments }, &chip, &mut []);
@@ -30,6 +32,11 @@ fn powers(board: Board) -> RangeInclusive<i128> {
         (false, Variant::Sx1276) => -4..=14,
         (false, Variant::Sx1272) => -1..=14,
     }
+}
+
+/// The spreading factor and the bandwidth that the registers name.
+pub fn pair(variant: Variant, image: &[u8; IMAGE]) -> Option<(i128, i128)> {
+    decoded(variant, image).map(|link| (link[1], link[2]))
 }
 
 /// All of a link but its power, as far as the registers name codes: public sf bw cr hz preamble implicit crc iq.

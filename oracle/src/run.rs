@@ -1,10 +1,12 @@
-//! A call's outcome: our own refusals, where the Rust has none, and for all the rest the Rust over the mock.
+//! A call's outcome: our own refusals, where the Rust has none, and for all the rest the Rust over the mock, amended by the
+//! sheet where document 02 says so.
 use crate::airtime::airtime;
 use crate::call::{Call, Numbers, Operation, Outcome, Source};
 use crate::chip::{Chip, FIFO, IMAGE};
-use crate::driver::{ask, Answer, Question};
-use crate::reader::read_link;
+use crate::driver::{Answer, Question};
+use crate::reader::{pair, read_link};
 use crate::rules::{after_the_rust, before_the_rust, Refusal};
+use crate::sheet::{ask, is_in_the_six, SIX};
 use std::cell::RefCell;
 
 pub fn run(call: &Call) -> Outcome {
@@ -53,6 +55,7 @@ fn take_over(call: &Call, answer: Answer, chip: &Chip, outcome: &mut Outcome) {
     outcome.source = Source::Rust;
     outcome.number = answer.number;
     outcome.values = answer.values;
+    outcome.in_the_six = answer.number == 0 && is_in_the_six(call.operation, &call.arguments);
     if call.operation.is_lent_an_image() {
         outcome.image.copy_from_slice(&chip.image);
     }
@@ -78,6 +81,7 @@ fn refuse(outcome: &mut Outcome, refusal: Refusal) {
 
 fn read_into(call: &Call, outcome: &mut Outcome) {
     let image: &[u8; IMAGE] = call.image[..].try_into().expect("26 was asked before");
+    outcome.in_the_six = pair(call.board.variant, image).is_some_and(|pair| SIX.contains(&pair));
     match read_link(call.board, image) {
         Some(link) => outcome.values = link,
         None => refuse(outcome, Refusal { number: 27, values: Numbers::NONE }),
@@ -86,7 +90,7 @@ fn read_into(call: &Call, outcome: &mut Outcome) {
 
 fn add_up_into(call: &Call, outcome: &mut Outcome) {
     match airtime(&call.buffer) {
-        Ok(totals) => outcome.values = totals,
+        Ok(totals) => (outcome.values, outcome.in_the_six) = (totals.microseconds, totals.in_the_six),
         Err(bad) => refuse(outcome, Refusal { number: bad.refusal, values: Numbers::of(&[bad.line]) }),
     }
 }

@@ -6,7 +6,7 @@ use oracle::{run, Board, Call, Operation, Source};
 /// The number of the answer, then the totals or the bad line.
 fn told(text: &[u8]) -> Vec<i128> {
     match airtime(text) {
-        Ok(totals) => [&[0], &totals[..]].concat(),
+        Ok(totals) => [&[0], &totals.microseconds[..]].concat(),
         Err(bad) => vec![bad.refusal as i128, bad.line],
     }
 }
@@ -141,7 +141,9 @@ fn few_bytes() {
 #[test]
 fn optimized() {
     // 255 bytes, explicit, CRC, 4/5.
-    for (sf, bw, payload) in [(11, 6, 57), (11, 7, 47), (12, 7, 51), (12, 8, 43), (7, 0, 74), (8, 0, 86), (8, 2, 65)] {
+    for (sf, bw, payload) in
+        [(11, 7, 57), (11, 8, 47), (12, 8, 51), (12, 9, 43), (7, 0, 103), (7, 1, 74), (8, 2, 86), (8, 3, 65)]
+    {
         assert_eq!(quarter_symbols(&[1, sf, bw, 1, 8, 255, 0, 1]), 49 + 32 + 20 * payload, "SF{sf} at {bw}");
     }
 }
@@ -149,11 +151,11 @@ fn optimized() {
 /// Reading 7: nothing is rounded but each total, once, and up.
 #[test]
 fn totals() {
-    // 161 × 128 × 250,000 / 7,810 = 659,667.09..
-    assert_eq!(of(&[[1, 7, 0, 1, 8, 10, 0, 1]]), at(0, 659_668));
-    assert_eq!(of(&[[1, 7, 0, 1, 8, 10, 0, 1]; 10]), at(0, 6_596_671));
+    // At 7.8 kHz it is optimized, and 181 quarter symbols: 181 × 128 × 250,000 / 7,810 = 741,613.31..
+    assert_eq!(of(&[[1, 7, 0, 1, 8, 10, 0, 1]]), at(0, 741_614));
+    assert_eq!(of(&[[1, 7, 0, 1, 8, 10, 0, 1]; 10]), at(0, 7_416_134));
     let each: Vec<Line> = (0..10).map(|bw| [1, 7, bw, 1, 8, 10, 0, 1]).collect();
-    let totals = [659_668, 494_434, 329_623, 247_336, 164_864, 123_639, 82_432, 41_216, 20_608, 10_304];
+    let totals = [741_614, 494_434, 329_623, 247_336, 164_864, 123_639, 82_432, 41_216, 20_608, 10_304];
     assert_eq!(of(&each), [&[0], &totals[..]].concat());
     let reversed: Vec<Line> = each.into_iter().rev().collect();
     assert_eq!(of(&reversed), [&[0], &totals[..]].concat());

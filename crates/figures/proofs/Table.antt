@@ -6,7 +6,7 @@ use mathlib.Core.List.{List, [], _∷_}
 use lib.Dec.{T}
 use lib.IntN.{ℤ}
 use Rattle.sheets.specs.Frequency.{steps, readBack, lowest}
-use Rattle.sheets.specs.Modem.{bandwidths, bandwidthCodes, symbolTime, optimize}
+use Rattle.sheets.specs.Modem.{bandwidths, bandwidthCodes, optimize}
 use Rattle.sheets.specs.Power.{clamped, paConfig, paDac, ocp}
 use Rattle.sheets.specs.Signal.{offset, rssi}
 use Rattle.sheets.proofs.Sweep.{both, sameℤ, sameℤ→eq}
@@ -43,5 +43,5 @@ right [] t = tt
 right (r ∷ rs) t = let p = both (alike (r .computed) (r .bench)) (holds rs) t in (alike→eq (r .computed) (r .bench) (p .0), right rs (p .1))
 
 pub starred-figures : Right starred
-unfolding starred steps readBack lowest bandwidths bandwidthCodes symbolTime optimize clamped paConfig paDac ocp offset rssi linkRefusal admitted accepted fits read is shown
+unfolding starred steps readBack lowest bandwidths bandwidthCodes optimize clamped paConfig paDac ocp offset rssi linkRefusal admitted accepted fits read is shown
 starred-figures = right starred tt

@@ -4,18 +4,17 @@ use mathlib.Core.Path.{_≡_, refl, sym, ap, _∙_}
 use mathlib.Core.Bool.{Bool, true, false}
 use mathlib.Core.List.{List, [], _∷_}
 use Prim.Native.Nat.{ℕ, zero, suc, _+_, _-_, _*_, _/_, _%_, _≤_, _<_}
-use native.Mathlib.Nat.{sub-add-cancel}
 use native.Mathlib.Omega.{arith}
 use lib.Dec.{T}
 use lib.Bits.{bitAnd, and-comm, and-shifted}
 use Rattle.sheets.specs.declared.Variant.{Variant}
 use Rattle.sheets.specs.declared.Variant.the-variants.{Sx1272, Sx1276}
 use Rattle.sheets.specs.Frequency.{steps, lowest}
-use Rattle.sheets.specs.Modem.{bandwidths, symbolTime, optimize, detectionOptimize, detectionThreshold, invertIq, invertIq2, syncWord}
+use Rattle.sheets.specs.Modem.{optimize, detectionOptimize, detectionThreshold, invertIq, invertIq2, syncWord}
 use Rattle.sheets.specs.Power.{paConfig}
 use Rattle.sheets.proofs.Sweep.{equal, equal₂}
 use Rattle.sheets.proofs.Frequency.{steps-lowest, lowest-lt, steps-fit}
-use Rattle.sheets.proofs.Modem.{optimize-le, code-76, code-72}
+use Rattle.sheets.proofs.Modem.{optimize-le, optimize-again, code-76, code-72}
 use Rattle.params.specs.declared.mod_params.Link.{Link}
 use Rattle.params.specs.declared.board.Board.{Board}
 use Rattle.page.specs.Page.{Place, Lawful, Learns, Agree, Clear, apart, canonical, told}
@@ -45,12 +44,6 @@ iq-shown f h = equal 0 2 (λ x. is (invertIq 1) (invertIq x)) (λ x. x) tt f (om
 pub sync-shown : (f : ℕ) → f ≤ 1 → is (syncWord 1) (syncWord f) ≡ f
 unfolding is
 sync-shown f h = equal 0 2 (λ x. is (syncWord 1) (syncWord x)) (λ x. x) tt f (omega arith) (omega arith)
-
--- spreading factor 12 where the flag is set, else 7, gives the flag again on the SX1272's bandwidths
-optimized : (sf bw : ℕ) → sf ≤ 12 → 7 ≤ bw → bw ≤ 9 → optimize (7 + optimize sf bw * 5) bw ≡ optimize sf bw
-unfolding optimize symbolTime bandwidths
-optimized sf bw h l m =
-    rw (← (sub-add-cancel l)) (equal₂ 13 3 (λ f j. optimize (7 + optimize f (j + 7) * 5) (j + 7)) (λ f j. optimize f (j + 7)) tt sf (bw - 7) (omega arith) (omega arith))
 
 detect-lt : (sf : ℕ) → sf ≤ 12 → detectionOptimize sf < 8
 detect-lt sf h = omega (arith, equal 0 13 (λ k. detectionOptimize k / 8) (λ k. 0) tt sf (omega arith) (omega arith))
@@ -194,7 +187,7 @@ module _ (boost : Bool) where
       let o-le = optimize-le (s .«spreading_factor») (s .bandwidth) in
       let d = unpacked (s .bandwidth - 7) (s .«coding_rate») (s .«implicit_header») (s .«crc_on») o (omega arith) (hs .cr-to) (hs .implicit) (hs .crc) o-le in
       let bw : s .bandwidth - 7 + 7 ≡ s .bandwidth = omega arith in
-      let same = optimized (s .«spreading_factor») (s .bandwidth) (hs .sf-to) (hs .bw-from) (hs .bw-to) in
+      let same = optimize-again (s .«spreading_factor») (s .bandwidth) (hs .sf-to) (hs .bw-from) (hs .bw-to) in
       rw code (rw (d .0, d .1, d .2, d .3, d .4, bw, code, same) (omega arith))
 
   learns-1e-72 : StepIn Sx1272 (L.config-1 Sx1272 ∷ before-1d-72 boost) (L.config-2 Sx1272)

@@ -2,6 +2,7 @@ pub mod Bits
 pub mod Registers
 pub mod Frequency
 pub mod Modem
+pub mod Rust
 pub mod Power
 pub mod Receive
 pub mod Interrupts

@@ -1,8 +1,9 @@
--- The LoRa modem (sheets: "LoRa Modem", RegModemConfig1 to 3): bandwidth, symbol time, detection, IQ, sync word.
+-- The LoRa modem (sheets: "LoRa Modem", RegModemConfig1 to 3): bandwidth, low data rate, detection, IQ, sync word.
 -- A bandwidth is its number in the Rust's `Bandwidth` order, 0 to 9, on either variant.
-use mathlib.Core.Bool.{Bool, cond, not}
+use mathlib.Core.Path.{_≡_, refl}
+use mathlib.Core.Bool.{Bool, true, false, cond, not}
 use mathlib.Core.List.{List, [], _∷_}
-use Prim.Native.Nat.{ℕ, zero, suc, _+_, _/_, _^_}
+use Prim.Native.Nat.{ℕ, zero, suc, _+_, _*_, _^_}
 use lib.Dec.{eqb, ltb}
 use lib.ListN.{getD}
 use Rattle.sheets.specs.declared.Variant.{Variant}
@@ -38,15 +39,23 @@ hasBandwidth v bw = not (eqb (bandwidthCode v bw) noCode)
 abbrev pub lowestBandEnd : ℕ
 lowestBandEnd = 400000000
 
--- ---- symbol time and low data rate optimize
+-- ---- low data rate optimize
 
--- the time of a symbol in ms: the sheets' 2^SF / bandwidth, by the Rust's two divisions, each rounded down
-unfoldable pub symbolTime : ℕ → ℕ → ℕ
-symbolTime sf bw = 1000 / (hertz bw / 2 ^ sf)
+-- whether a symbol lasts longer than 16 ms: it has 2^SF chips, and a second has as many as the bandwidth has hertz. Multiplied out, so
+-- that nothing is rounded.
+abbrev pub longSymbol : ℕ → ℕ → Bool
+longSymbol sf hz = ltb (16 * hz) (1000 * 2 ^ sf)
 
--- LowDataRateOptimize is on where a symbol lasts longer than 16 ms
+-- at 8 kHz a symbol of SF7 lasts 16 ms, and is not longer
+pub of-16-ms : longSymbol 7 8000 ≡ false
+of-16-ms = refl
+
+pub above-16-ms : longSymbol 7 7999 ≡ true
+above-16-ms = refl
+
+-- LowDataRateOptimize is on for a long symbol
 unfoldable pub optimize : ℕ → ℕ → ℕ
-optimize sf bw = cond (ltb 16 (symbolTime sf bw)) 1 0
+optimize sf bw = cond (longSymbol sf (hertz bw)) 1 0
 
 -- ---- detection: SF6 wants its own values
 

@@ -2,7 +2,7 @@
 use mathlib.Core.Path.{_≡_, refl}
 use Prim.Native.Nat.{ℕ, suc, _+_, _*_, _-_, _/_, _^_}
 use lib.IntN.{ℤ, pos, negsuc, negℤ, subℕ}
-use Rattle.sheets.specs.Modem.{bandwidths, symbolTime, optimize}
+use Rattle.sheets.specs.Modem.{bandwidths, optimize}
 use Rattle.time_on_air.specs.declared.packet.Packet.{Packet}
 
 -- ---- a quotient, rounded up: toward plus infinity, also of a number below 0
@@ -40,10 +40,15 @@ quarterChips p = quarterSymbols p * 2 ^ p .«spreading_factor»
 
 -- document 02's example: preamble 8, SF7 (here at 125 kHz), 4/5, CRC, explicit header, 10 bytes
 pub worked-example : quarterSymbols (record { id = 0; «spreading_factor» = 7; bandwidth = 7; «coding_rate» = 1; preamble = 8; length = 10; «implicit_header» = 0; «crc_on» = 1 }) ≡ 161
-unfolding quarterSymbols codedSymbols codedBits optimize symbolTime bandwidths
+unfolding quarterSymbols codedSymbols codedBits optimize bandwidths
 worked-example = refl
+
+-- the same at 7.8 kHz, where a symbol lasts 16.4 ms: low data rate optimize is on
+pub optimized-example : quarterSymbols (record { id = 0; «spreading_factor» = 7; bandwidth = 0; «coding_rate» = 1; preamble = 8; length = 10; «implicit_header» = 0; «crc_on» = 1 }) ≡ 181
+unfolding quarterSymbols codedSymbols codedBits optimize bandwidths
+optimized-example = refl
 
 -- 50,000 packets of SF12, 4/8, preamble 65,535 and 255 bytes (here at 7.8 kHz): 250,000 times as much fits 64 bits, and no sign beside it
 pub longest : 50000 * quarterChips (record { id = 0; «spreading_factor» = 12; bandwidth = 0; «coding_rate» = 4; preamble = 65535; length = 255; «implicit_header» = 0; «crc_on» = 1 }) ≡ 54030540800000
-unfolding quarterChips quarterSymbols codedSymbols codedBits optimize symbolTime bandwidths
+unfolding quarterChips quarterSymbols codedSymbols codedBits optimize bandwidths
 longest = refl

@@ -1,7 +1,7 @@
 -- How much a packet's time can be.
 -- Assumes nothing.
-use mathlib.Core.Bool.{Bool, true, false, cond}
-use lib.Dec.{ltb, lit≤}
+use mathlib.Core.Bool.{true, false}
+use lib.Dec.{ltb}
 use Prim.Native.Nat.{ℕ, zero, suc, _≤_, _+_, _*_, _-_, _/_, _%_, _^_}
 use native.Mathlib.Nat.{div-eq-of-lt, div-le-self, mul-le-mul, le-trans}
 use native.Mathlib.Omega.{arith}
@@ -12,18 +12,11 @@ use lib.IntN.{ℤ, pos, negsuc, negℤ, subℕ}
 use lib.Pow.{pow-mono}
 use Rattle.time_on_air.proofs.Parts.{decided}
 use Rattle.sheets.proofs.Sweep.{equal}
-use Rattle.sheets.specs.Modem.{symbolTime, optimize}
+use Rattle.sheets.specs.Modem.{optimize}
+use Rattle.sheets.proofs.Modem.{optimize-le}
 use Rattle.time_on_air.specs.declared.packet.Packet.{Packet}
 use Rattle.time_on_air.specs.Packet.{Counts}
 use Rattle.time_on_air.specs.Symbols.{ceil, greaterOf0, codedBits, codedSymbols, quarterSymbols, quarterChips}
-
-one-of : (t : Bool) → cond t 1 0 ≤ 1
-one-of true = lit≤ tt
-one-of false = lit≤ tt
-
-pub optimize-flag : (sf bw : ℕ) → optimize sf bw ≤ 1
-unfolding optimize
-optimize-flag sf bw = one-of (ltb 16 (symbolTime sf bw))
 
 -- a number below 0 makes no symbols: its quotient, rounded up, is at most 0
 none-above : (m : ℕ) → greaterOf0 (negℤ (pos m)) ≡ 0
@@ -66,7 +59,7 @@ module _ (p : Packet) (c : Counts p) where
       let de = optimize sf (p .bandwidth) in
       let bits = codedBits sf (p .length) (p .«implicit_header») (p .«crc_on») in
       let d : codedSymbols sf de (p .«coding_rate») bits ≤ 17048 =
-      rw (above-zero sf de (p .«coding_rate») bits (c .sf-low) (optimize-flag sf (p .bandwidth)))
+      rw (above-zero sf de (p .«coding_rate») bits (c .sf-low) (optimize-le sf (p .bandwidth)))
       (coded-bound sf de (p .«coding_rate») (greaterOf0 bits) (c .sf-high) (c .coding) (bits-bound sf (p .length) (p .«implicit_header») (p .«crc_on») (c .size) (c .crc))) in
       let e : p .preamble ≤ 65535 = c .preamble in
       omega arith

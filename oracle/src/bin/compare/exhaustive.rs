@@ -1,8 +1,10 @@
 //! The calls that are made one and all, part by part.
 use crate::report::Report;
 use oracle::chip::IMAGE;
-use oracle::maker::{Image, Maker, BASES, FREQUENCIES, IMAGES, PREAMBLES, READER};
+use oracle::driver::ask;
+use oracle::maker::{programmed, Image, Maker, BASES, FREQUENCIES, IMAGES, PREAMBLES, READER};
 use oracle::reader::lowest_frequency;
+use oracle::sheet::{flag, six_of};
 use oracle::{Board, Operation, Variant};
 
 const CODES: std::ops::RangeInclusive<i128> = 0..=255;
@@ -33,6 +35,7 @@ impl Exhaustive<'_> {
         self.lengths();
         self.commands();
         self.reader();
+        self.the_rusts_images();
         self.depots();
     }
 
@@ -291,6 +294,23 @@ impl Exhaustive<'_> {
             for image in IMAGES.into_iter().cycle().take(64) {
                 let arguments = self.maker.accepted_arguments(board.variant, operation);
                 self.take(board, operation, &arguments, image);
+            }
+        }
+    }
+
+    /// What the Rust by itself leaves of the six pairs, and the same with the optimize flag, on every kind of image.
+    fn the_rusts_images(&mut self) {
+        for board in Board::all() {
+            let (address, bit) = flag(board.variant);
+            let images = || IMAGES.into_iter().cycle().take(64);
+            for (pair, image) in six_of(board.variant).flat_map(|pair| images().map(move |image| (pair, image))) {
+                self.maker.make(board, Operation::ReadLink, &[], image);
+                let link = self.maker.accepted_link_of(board.variant, pair);
+                let start = self.maker.call.image[..].try_into().expect("the reader is lent an image");
+                self.maker.call.image.copy_from_slice(&programmed(ask, board, &link, start));
+                self.offer();
+                self.maker.call.image[address as usize] |= bit;
+                self.offer();
             }
         }
     }

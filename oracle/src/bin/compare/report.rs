@@ -12,6 +12,7 @@ const WIDTH: usize = 16_384;
 struct Count {
     compared: u64,
     by_the_rust: u64,
+    in_the_six: u64,
     differed: u64,
 }
 
@@ -60,6 +61,7 @@ impl Report {
         let count = &mut self.counts[call.operation as usize];
         count.compared += 1;
         count.by_the_rust += (self.expected.source == Source::Rust) as u64;
+        count.in_the_six += self.expected.in_the_six as u64;
         if !self.expected.agrees(&self.found) {
             count.differed += 1;
             if count.differed <= TOLD {
@@ -82,13 +84,14 @@ impl Report {
             return true;
         }
         println!("The oracle and {}:", library::NAME);
-        println!("{:32}{:>12}{:>14}{:>10}", "operation", "compared", "by the Rust", "differed");
+        println!("{:32}{:>12}{:>14}{:>12}{:>10}", "operation", "compared", "by the Rust", "in the six", "differed");
         let mut all = Count::default();
         for operation in Operation::all() {
             let count = self.counts[operation as usize];
             row(operation.name(), count);
             all.compared += count.compared;
             all.by_the_rust += count.by_the_rust;
+            all.in_the_six += count.in_the_six;
             all.differed += count.differed;
         }
         row("all", all);
@@ -98,5 +101,6 @@ impl Report {
 }
 
 fn row(name: &str, count: Count) {
-    println!("{name:32}{:>12}{:>14}{:>10}", count.compared, count.by_the_rust, count.differed);
+    let Count { compared, by_the_rust, in_the_six, differed } = count;
+    println!("{name:32}{compared:>12}{by_the_rust:>14}{in_the_six:>12}{differed:>10}");
 }

@@ -33,6 +33,7 @@ fn list() -> Vec<Vec<u8>> {
         depots::all,
         sections::any,
         no_calls::all,
+        sections::six,
     ];
     parts.iter().for_each(|part| part(&mut list));
     // The last line has no LF, and is a call all the same.

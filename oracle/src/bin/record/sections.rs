@@ -1,6 +1,8 @@
 //! The calls of the list: every operation on every board, every boundary that document 01 names, every refusal.
 use crate::list::{board, pairs, plain, List, VARIANTS};
-use oracle::maker::{Image, BASES, FREQUENCIES, PREAMBLES, READER, SYMBOLS};
+use oracle::driver::ask;
+use oracle::maker::{programmed, Image, BASES, FREQUENCIES, PREAMBLES, READER, SYMBOLS};
+use oracle::sheet::{six_of, SIX};
 use oracle::{Board, Operation, Variant};
 
 /// All but `airtime`, which knows no radio and is a part of its own.
@@ -272,6 +274,31 @@ pub fn links(list: &mut List) {
             list.maker.make(board, Operation::ReadLink, &[], Image::Linked);
             list.maker.call.image[address] ^= 1 << list.maker.random.below(8);
             list.add();
+        }
+    }
+}
+
+/// The six pairs whose optimize flag is the sheet's: made, programmed and read; and what the Rust by itself leaves of
+/// them, which is no link.
+pub fn six(list: &mut List) {
+    for (variant, (sf, bw)) in pairs(&VARIANTS, &SIX) {
+        list.call(plain(variant), Operation::CreateModulationParams, &[sf, bw, 1, 868_100_000], Image::Zero);
+        for optimize in [0, 1] {
+            list.call(plain(variant), Operation::SetModulationParams, &[sf, bw, 1, optimize], Image::Reset);
+        }
+    }
+    for board in Board::all() {
+        let six: Vec<_> = six_of(board.variant).collect();
+        for (pair, image) in pairs(&six, &[Image::Zero, Image::Random]) {
+            let link = list.maker.accepted_link_of(board.variant, pair);
+            list.call(board, Operation::Program, &link, image);
+            let start = list.maker.call.image[..].try_into().expect("whole programming is lent an image");
+            let left = [oracle::run(&list.maker.call).image, programmed(ask, board, &link, start).to_vec()];
+            for image in left {
+                list.maker.make(board, Operation::ReadLink, &[], Image::Zero);
+                list.maker.call.image = image;
+                list.add();
+            }
         }
     }
 }
