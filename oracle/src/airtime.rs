@@ -28,6 +28,7 @@ pub struct Totals {
     pub in_the_six: bool,
 }
 
+/// The totals of a file, or its first bad line.
 pub fn airtime(text: &[u8]) -> Result<Totals, BadLine> {
     // Of each bandwidth the quarter symbols × 2^SF, so that nothing is rounded before the end.
     let mut sums = [0; BANDWIDTHS];
