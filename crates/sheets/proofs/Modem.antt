@@ -2,10 +2,11 @@
 -- Assumes nothing.
 use mathlib.Core.Path.{_≡_}
 use mathlib.Core.Bool.{Bool, true, false, cond}
-use Prim.Native.Nat.{ℕ, _+_, _*_, _-_, _≤_, _<_}
-use native.Mathlib.Nat.{sub-add-cancel}
+use Prim.Native.Nat.{ℕ, _+_, _*_, _-_, _%_, _^_, _≤_, _<_}
+use native.Mathlib.Nat.{sub-add-cancel, mod-eq-of-lt}
 use native.Mathlib.Omega.{arith}
 use lib.Dec.{leb, leb→le}
+use lib.Pow.{pow-mono}
 use Rattle.sheets.specs.declared.Variant.the-variants.{Sx1272, Sx1276}
 use Rattle.sheets.specs.Modem.{bandwidths, bandwidthCodes, hertz, bandwidthCode, longSymbol, optimize}
 use Rattle.sheets.specs.Rust.{theRust'sOptimize, sixPairs, listed}
@@ -27,6 +28,13 @@ optimize-le sf bw = flag-le (longSymbol sf (hertz bw))
 pub hertz-le : (bw : ℕ) → bw < 10 → hertz bw ≤ 500000
 unfolding bandwidths
 hertz-le bw h = leb→le (hertz bw) 500000 (at (λ k. leb (hertz k) 500000) 0 10 tt bw (omega arith) (omega arith))
+
+-- a symbol's chips, as a shift makes them, in a word that holds so many
+pub chips-fit : (sf w : ℕ) → sf ≤ 12 → 4096 < w → 1 * 2 ^ sf % w ≡ 2 ^ sf
+chips-fit sf w h k =
+    let chips : 2 ^ sf ≤ 4096 = pow-mono {i = sf} {j = 12} h in
+    let one : 1 * 2 ^ sf ≡ 2 ^ sf = omega arith in
+    rw one (mod-eq-of-lt (omega arith))
 
 -- spreading factor 12 where the flag is set, else 7, gives the flag again on the SX1272's bandwidths
 pub optimize-again : (sf bw : ℕ) → sf ≤ 12 → 7 ≤ bw → bw ≤ 9 → optimize (7 + optimize sf bw * 5) bw ≡ optimize sf bw

@@ -1,5 +1,5 @@
 -- Rules of the Rust that this driver had and goes by no more, and where they differ from the sheets' rule that it has now.
-use mathlib.Core.Bool.{Bool, cond, _&&_}
+use mathlib.Core.Bool.{cond, _&&_}
 use mathlib.Core.List.{List, [], _∷_}
 use Prim.Native.Nat.{ℕ, _/_, _^_}
 use lib.Dec.{eqb, ltb}

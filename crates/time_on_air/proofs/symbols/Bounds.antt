@@ -2,7 +2,7 @@
 -- Assumes nothing.
 use mathlib.Core.Bool.{true, false}
 use lib.Dec.{ltb}
-use Prim.Native.Nat.{ℕ, zero, suc, _≤_, _+_, _*_, _-_, _/_, _%_, _^_}
+use Prim.Native.Nat.{ℕ, zero, suc, _≤_, _+_, _*_, _-_, _/_, _^_}
 use native.Mathlib.Nat.{div-eq-of-lt, div-le-self, mul-le-mul, le-trans}
 use native.Mathlib.Omega.{arith}
 use borrow.Author.Tests.{ltb-true}
@@ -11,7 +11,6 @@ use mathlib.Core.Logic.{⊎-elim}
 use lib.IntN.{ℤ, pos, negsuc, negℤ, subℕ}
 use lib.Pow.{pow-mono}
 use Rattle.time_on_air.proofs.Parts.{decided}
-use Rattle.sheets.proofs.Sweep.{equal}
 use Rattle.sheets.specs.Modem.{optimize}
 use Rattle.sheets.proofs.Modem.{optimize-le}
 use Rattle.time_on_air.specs.declared.packet.Packet.{Packet}
@@ -63,10 +62,6 @@ module _ (p : Packet) (c : Counts p) where
       (coded-bound sf de (p .«coding_rate») (greaterOf0 bits) (c .sf-high) (c .coding) (bits-bound sf (p .length) (p .«implicit_header») (p .«crc_on») (c .size) (c .crc))) in
       let e : p .preamble ≤ 65535 = c .preamble in
       omega arith
-
-  -- the shift loses nothing
-  pub shifted : 1 * 2 ^ p .«spreading_factor» % 18446744073709551616 ≡ 2 ^ p .«spreading_factor»
-  shifted = equal 0 13 (λ s. 1 * 2 ^ s % 18446744073709551616) (λ s. 2 ^ s) tt (p .«spreading_factor») (omega arith) (let h : p .«spreading_factor» ≤ 12 = c .sf-high in omega arith)
 
   pub chips-bound : quarterChips p ≤ 1353240576
   unfolding quarterChips

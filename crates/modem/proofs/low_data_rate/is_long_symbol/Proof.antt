@@ -2,30 +2,26 @@
 -- Assumes nothing.
 use borrow.Author.Needs.{needs}
 use mathlib.Core.Path.{_≡_}
-use Prim.Native.Nat.{ℕ, _*_, _%_, _^_, _≤_}
+use Prim.Native.Nat.{_*_, _%_, _^_, _≤_}
 use native.Mathlib.Omega.{arith}
-use lib.Dec.{ltb}
+use lib.Dec.{ltb, lit<}
 use lib.Pow.{pow-mono}
 use Rattle.sheets.specs.Modem.{longSymbol}
-use Rattle.sheets.proofs.Sweep.{equal}
+use Rattle.sheets.proofs.Modem.{chips-fit}
 use Rattle.modem.proofs.low_data_rate.is_long_symbol.Statement.{statement}
 use Rattle.modem.proofs.low_data_rate.is_long_symbol.Tie as tie
-
--- the shift loses nothing
-shifted : (sf : ℕ) → sf ≤ 12 → 1 * 2 ^ sf % 4294967296 ≡ 2 ^ sf
-shifted sf h = equal 0 13 (λ s. 1 * 2 ^ s % 4294967296) (λ s. 2 ^ s) tt sf (omega arith) (omega arith)
 
 mul-result : tie.Need-mul-result
 mul-result c =
     let sf = c .args .spreading-factor in
     let chips : 2 ^ sf ≤ 4096 = pow-mono {i = sf} {j = 12} (omega arith) in
-    rw (shifted sf (omega arith)) (omega arith)
+    rw (chips-fit sf 4294967296 (omega arith) (lit< tt)) (omega arith)
 
 returns : tie.Need-returns
 returns c =
     let sf = c .args .spreading-factor in
     let hz = c .args .bw-in-hz in
-    let compared : ltb (16 * hz) (1000 * (1 * 2 ^ sf % 4294967296)) ≡ longSymbol sf hz = rw (shifted sf (omega arith)) in
+    let compared : ltb (16 * hz) (1000 * (1 * 2 ^ sf % 4294967296)) ≡ longSymbol sf hz = rw (chips-fit sf 4294967296 (omega arith) (lit< tt)) in
     compared
 
 pub is-long-symbol-spec : {M : Type 1} → statement M

@@ -1,10 +1,8 @@
 -- `modem::low_data_rate::low_data_rate_optimize` meets its contract: no bandwidth is above 500 kHz.
 -- Assumes nothing.
 use borrow.Author.Needs.{needs}
-use mathlib.Core.Path.{_≡_, sym, _∙_}
-use Prim.Native.Nat.{ℕ, _≤_, _<_}
 use native.Mathlib.Omega.{arith}
-use Rattle.sheets.specs.Modem.{hertz, longSymbol, optimize}
+use Rattle.sheets.specs.Modem.{optimize}
 use Rattle.sheets.proofs.Modem.{hertz-le}
 use Rattle.modem.proofs.low_data_rate.low_data_rate_optimize.Statement.{statement}
 use Rattle.modem.proofs.low_data_rate.low_data_rate_optimize.Tie as tie
