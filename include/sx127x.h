@@ -74,8 +74,10 @@ enum {
     SX127X_MAX_RECORDS = 30, /* no call appends more */
     SX127X_MAX_RESULTS = 11, /* no call tells more */
     SX127X_MAX_PAYLOAD = 255,
-    SX127X_MAX_LINES = 50000, /* a depot's file has no more */
-    SX127X_MAX_LINE_SIZE = 32 /* a line of an accepted one is no longer, its LF counted */
+    SX127X_MAX_LINES = 50000,       /* a depot's file has no more */
+    SX127X_MAX_LINE_SIZE = 32,      /* a line of an accepted one is no longer, its LF counted */
+    SX127X_HEX_TEXT_SIZE = 364,     /* the text of an image that is written, exactly */
+    SX127X_MAX_HEX_TEXT_SIZE = 1933 /* one that is read and has no empty records is no longer */
 };
 
 /* ---- records: kind, address, data
@@ -121,7 +123,13 @@ enum {
     SX127X_BAD_IMAGE = 26,                        /* an image not of 128 bytes or a FIFO not of 256; a log's length or
                                                      used bytes no multiple of 3; more bytes used than the log has */
     SX127X_NOT_A_LINK = 27,                       /* no link leaves these registers */
-    SX127X_BAD_LINE = 28                          /* a line of bad form, out of range or one too many; its number */
+    SX127X_BAD_LINE = 28,                         /* a line of bad form, out of range or one too many; its number */
+    SX127X_BAD_HEX = 29,                          /* a record of bad form or of another type; an end record with bytes
+                                                     or an address; text after the end record */
+    SX127X_BAD_SUM = 30,                          /* a record's sum is wrong */
+    SX127X_WRONG_PLACE = 31,                      /* a byte's address is 128 or more, or was set before */
+    SX127X_INCOMPLETE = 32,                       /* an address that is not set, or no end record */
+    SX127X_TEXT_FULL = 41                         /* no room for the text */
 };
 
 /* An answer's name, for people. */
@@ -146,6 +154,11 @@ static inline const char *sx127x_answer_name(int32_t answer)
     case SX127X_BAD_IMAGE: return "BadImage";
     case SX127X_NOT_A_LINK: return "NotALink";
     case SX127X_BAD_LINE: return "BadLine";
+    case SX127X_BAD_HEX: return "BadHex";
+    case SX127X_BAD_SUM: return "BadSum";
+    case SX127X_WRONG_PLACE: return "WrongPlace";
+    case SX127X_INCOMPLETE: return "Incomplete";
+    case SX127X_TEXT_FULL: return "TextFull";
     default: return "no answer of this driver";
     }
 }
@@ -384,6 +397,29 @@ int32_t sx127x_read_link(const uint8_t *image, uint64_t image_len, uint8_t board
  *   }
  */
 int32_t sx127x_airtime(const uint8_t *text, uint64_t text_len, int64_t *results, uint64_t results_len);
+
+/* ---- images as Intel HEX
+ *
+ * A line is a record: a colon, and as hex, two digits a byte, how many data bytes it has, the address of the first in
+ * two bytes, its type, the data bytes, and the sum, with which all of these add up to a multiple of 256. Type 0 has
+ * data, type 1 is the end. An image's registers have the addresses 0 to 127. examples/c/hex.c writes and reads.
+ */
+
+/* Writes an image: eight data records of 16 bytes from address 0 and an end record, in upper case, each line ended by
+ * an LF. They stand at the start of `text`; what it has behind them stays, so no 0 ends them. Value: their bytes,
+ * SX127X_HEX_TEXT_SIZE.
+ * Refusals: 26 (the image), 41. */
+int32_t sx127x_write_hex(const uint8_t *image, uint64_t image_len, uint8_t *text, uint64_t text_len, int64_t *results,
+                         uint64_t results_len);
+
+/* Fills an image from a text of data records, in any order and empty ones too, closed by one end record with nothing
+ * after its line. Digits are of either letter case, and a line is ended by an LF or by CR and LF. Each of the 128
+ * addresses is set exactly once, so what the image held before does not matter; after a refusal it still holds it. No
+ * values.
+ * Refusals: 26 (the image); of the first bad record 29, 30, 31 (an empty record's address is not looked at); where no
+ * record is bad 32. */
+int32_t sx127x_read_hex(const uint8_t *text, uint64_t text_len, uint8_t *image, uint64_t image_len, int64_t *results,
+                        uint64_t results_len);
 
 #ifdef __cplusplus
 }

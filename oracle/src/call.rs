@@ -62,7 +62,7 @@ const IQ: Argument = byte("iq");
 const MODE: Argument = byte("mode");
 const RXMODE: Argument = byte("rxmode");
 
-/// The public calls: the Rust's operations, whole programming, the reader and a depot's airtime.
+/// The public calls: the Rust's operations, whole programming, the reader, a depot's airtime and images as Intel HEX.
 #[derive(Clone, Copy, Debug, PartialEq, Eq)]
 pub enum Operation {
     InitLora,
@@ -88,6 +88,8 @@ pub enum Operation {
     Program,
     ReadLink,
     Airtime,
+    WriteHex,
+    ReadHex,
 }
 
 type Entry = (Operation, &'static str, &'static [Argument]);
@@ -117,10 +119,12 @@ const TABLE: [Entry; Operation::COUNT] = [
     (Operation::Program, "program", &[PUBLIC, SF, BW, CR, HZ, PREAMBLE, IMPLICIT, CRC, IQ, POWER]),
     (Operation::ReadLink, "read_link", &[]),
     (Operation::Airtime, "airtime", &[]),
+    (Operation::WriteHex, "write_hex", &[]),
+    (Operation::ReadHex, "read_hex", &[]),
 ];
 
 impl Operation {
-    pub const COUNT: usize = 23;
+    pub const COUNT: usize = 25;
 
     pub fn all() -> impl Iterator<Item = Operation> {
         TABLE.iter().map(|entry| entry.0)
@@ -143,18 +147,23 @@ impl Operation {
         !matches!(self, Operation::CreateModulationParams | Operation::CreatePacketParams | Operation::Airtime)
     }
 
-    /// All that are lent an image append to a log, but for the reader.
+    /// An image is read or written as Intel HEX.
+    pub fn is_of_hex(self) -> bool {
+        matches!(self, Operation::WriteHex | Operation::ReadHex)
+    }
+
+    /// All that are lent an image append to a log, but for the reader and those of Intel HEX.
     pub fn is_lent_a_log(self) -> bool {
-        self.is_lent_an_image() && self != Operation::ReadLink
+        self.is_lent_an_image() && self != Operation::ReadLink && !self.is_of_hex()
     }
 
     pub fn is_lent_a_fifo(self) -> bool {
         matches!(self, Operation::SetPayload | Operation::GetRxPayload)
     }
 
-    /// A payload, a receive buffer, or the text of a depot's file.
+    /// A payload, a receive buffer, the text of a depot's file, an Intel HEX text or the room for one.
     pub fn is_lent_a_buffer(self) -> bool {
-        self.is_lent_a_fifo() || self == Operation::Airtime
+        self.is_lent_a_fifo() || self == Operation::Airtime || self.is_of_hex()
     }
 }
 
@@ -242,7 +251,7 @@ impl Call {
 pub enum Source {
     /// The unchanged Rust's, over the mock.
     Rust,
-    /// Ours: a refusal that the Rust has not, or the reader or a depot's airtime, which have no Rust side.
+    /// Ours: a refusal that the Rust has not, or the reader, a depot's airtime or Intel HEX, which have no Rust side.
     Ours,
     /// The Rust panicked where document 01 has an answer, or the mock met what it does not know; and how.
     Panic(String),

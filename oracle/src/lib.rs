@@ -4,6 +4,8 @@ pub mod airtime;
 pub mod call;
 pub mod chip;
 pub mod driver;
+pub mod hex_texts;
+pub mod intel_hex;
 pub mod library;
 #[cfg(feature = "library")]
 pub mod linked;

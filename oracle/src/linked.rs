@@ -76,6 +76,8 @@ pub fn answer(call: &Call, board: u8, out: &mut Outcome, results: &mut [u64]) ->
         Operation::Program => programmed(image, log, used, board, arguments, results),
         Operation::ReadLink => sx127x::read_link(image, board, results),
         Operation::Airtime => sx127x::airtime(buffer, results),
+        Operation::WriteHex => sx127x::write_hex(image, buffer, results),
+        Operation::ReadHex => sx127x::read_hex(buffer, image, results),
     }
 }
 

@@ -2,10 +2,12 @@
 use crate::call::{Argument, Board, Call, Numbers, Operation, Variant};
 use crate::chip::{Chip, FIFO, IMAGE};
 use crate::driver::{Answer, Question};
+use crate::hex_texts::{any_lines, kinds, mixed, rows};
+use crate::intel_hex::TEXT;
 use crate::random::Random;
 use crate::rules::records;
-use crate::sheet;
 use crate::texts::{accepted_line, any_line, put, spoil};
+use crate::{hex_texts, sheet, texts};
 use std::cell::RefCell;
 
 /// The frequencies at which document 01 changes something, and their neighbours.
@@ -25,6 +27,7 @@ pub const READER: [usize; 22] = [
 ];
 const BAD_IMAGES: [usize; 6] = [0, 1, 127, 129, 256, 1_024];
 const PAYLOADS: [usize; 8] = [0, 1, 2, 254, 255, 256, 257, 1_024];
+const ROOMS: [usize; 8] = [0, 1, 12, 352, TEXT - 1, TEXT, 1_024, 4_096];
 
 /// What an image is before a call.
 #[derive(Clone, Copy, Debug, PartialEq, Eq)]
@@ -131,8 +134,14 @@ impl Maker {
             let received = self.call.image[0x13] as usize;
             self.lend_buffer(if self.call.operation == Operation::GetRxPayload { received } else { 16 });
         }
-        if self.call.operation == Operation::Airtime {
-            self.add_lines();
+        match self.call.operation {
+            Operation::Airtime => self.add_lines(),
+            Operation::WriteHex => self.lend_buffer(TEXT),
+            Operation::ReadHex => {
+                let image = self.random_image();
+                self.call.buffer = rows(&image, 16).concat();
+            }
+            _ => {}
         }
     }
 
@@ -238,6 +247,10 @@ impl Maker {
     /// Any call: mostly one that is done, now and then with something wrong.
     pub fn make_any(&mut self) {
         let operation = Operation::all().nth(self.random.below(Operation::COUNT as u64) as usize).unwrap();
+        self.make_any_of(operation);
+    }
+
+    pub fn make_any_of(&mut self, operation: Operation) {
         let board = self.random.pick(&Board::all());
         let mut arguments = self.accepted_arguments(board.variant, operation);
         if self.random.one_in(4) {
@@ -299,6 +312,8 @@ impl Maker {
                 self.lend_buffer(length);
             }
             Operation::Airtime if self.random.one_in(2) => self.vary_text(),
+            Operation::WriteHex => self.vary_room(),
+            Operation::ReadHex => self.vary_hex(),
             _ if self.random.one_in(32) => self.put_unlent(),
             _ => {}
         }
@@ -314,7 +329,28 @@ impl Maker {
             put(&mut self.call.buffer, &any_line(&mut self.random));
             self.add_lines();
         } else {
-            spoil(&mut self.random, &mut self.call.buffer);
+            spoil(&mut self.random, &mut self.call.buffer, &texts::BYTES);
+        }
+    }
+
+    fn vary_room(&mut self) {
+        let length = TEXT + self.random.below(40) as usize;
+        let length = if self.random.one_in(4) { self.random.pick(&ROOMS) } else { length };
+        self.lend_buffer(length);
+    }
+
+    /// A text of any layout, which may have a line of another kind among the others, or a byte that does not belong.
+    fn vary_hex(&mut self) {
+        let image = self.random_image();
+        let mut lines = any_lines(&mut self.random, &image);
+        if self.random.one_in(4) {
+            let kinds = kinds();
+            let kind = kinds[self.random.below(kinds.len() as u64) as usize].clone();
+            lines.insert(self.random.below(lines.len() as u64 + 1) as usize, kind);
+        }
+        self.call.buffer = mixed(&mut self.random, &lines.concat());
+        if self.random.one_in(4) {
+            spoil(&mut self.random, &mut self.call.buffer, &hex_texts::BYTES);
         }
     }
 }

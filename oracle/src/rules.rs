@@ -96,6 +96,6 @@ pub fn records(board: Board, operation: Operation, arguments: &[i128]) -> usize 
         Operation::Program => of(29, 22) + board.tcxo_used as usize,
         Operation::SetTxRxBufferBaseAddress => 2,
         Operation::CreateModulationParams | Operation::CreatePacketParams => 0,
-        Operation::ReadLink | Operation::Airtime => 0,
+        Operation::ReadLink | Operation::Airtime | Operation::WriteHex | Operation::ReadHex => 0,
     }
 }

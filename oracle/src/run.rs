@@ -4,6 +4,7 @@ use crate::airtime::airtime;
 use crate::call::{Call, Numbers, Operation, Outcome, Source};
 use crate::chip::{Chip, FIFO, IMAGE};
 use crate::driver::{Answer, Question};
+use crate::intel_hex;
 use crate::reader::{pair, read_link};
 use crate::rules::{after_the_rust, before_the_rust, Refusal};
 use crate::sheet::{ask, is_in_the_six, SIX};
@@ -24,6 +25,8 @@ pub fn run_into(call: &Call, outcome: &mut Outcome) {
     match call.operation {
         Operation::ReadLink => read_into(call, outcome),
         Operation::Airtime => add_up_into(call, outcome),
+        Operation::WriteHex => write_hex_into(call, outcome),
+        Operation::ReadHex => read_hex_into(call, outcome),
         _ => ask_into(call, outcome),
     }
 }
@@ -80,11 +83,11 @@ fn refuse(outcome: &mut Outcome, refusal: Refusal) {
 }
 
 fn read_into(call: &Call, outcome: &mut Outcome) {
-    let image: &[u8; IMAGE] = call.image[..].try_into().expect("26 was asked before");
+    let image = lent_image(call);
     outcome.in_the_six = pair(call.board.variant, image).is_some_and(|pair| SIX.contains(&pair));
     match read_link(call.board, image) {
         Some(link) => outcome.values = link,
-        None => refuse(outcome, Refusal { number: 27, values: Numbers::NONE }),
+        None => refuse(outcome, plain(27)),
     }
 }
 
@@ -93,6 +96,29 @@ fn add_up_into(call: &Call, outcome: &mut Outcome) {
         Ok(totals) => (outcome.values, outcome.in_the_six) = (totals.microseconds, totals.in_the_six),
         Err(bad) => refuse(outcome, Refusal { number: bad.refusal, values: Numbers::of(&[bad.line]) }),
     }
+}
+
+fn write_hex_into(call: &Call, outcome: &mut Outcome) {
+    match intel_hex::write(lent_image(call), &mut outcome.buffer) {
+        Ok(length) => outcome.values = Numbers::of(&[length as i128]),
+        Err(refusal) => refuse(outcome, plain(refusal)),
+    }
+}
+
+fn read_hex_into(call: &Call, outcome: &mut Outcome) {
+    match intel_hex::read(&call.buffer) {
+        Ok(image) => outcome.image.copy_from_slice(&image),
+        Err(refusal) => refuse(outcome, plain(refusal)),
+    }
+}
+
+/// A refusal that has no values.
+fn plain(number: u8) -> Refusal {
+    Refusal { number, values: Numbers::NONE }
+}
+
+fn lent_image(call: &Call) -> &[u8; IMAGE] {
+    call.image[..].try_into().expect("26 was asked before")
 }
 
 /// A chip as it is lent. An operation that is lent no image or FIFO does not come to see what stands here for it.

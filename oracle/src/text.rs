@@ -5,6 +5,8 @@ use std::fmt::Write;
 
 const LONGEST_LINE: usize = 16_384;
 const LONGEST_SLICE: usize = 1_024;
+/// The buffer may be a text of short records, which takes more than anything else that is lent.
+const LONGEST_BUFFER: usize = 4_096;
 
 /// The line that answers a line.
 pub fn answer(line: &[u8]) -> String {
@@ -23,8 +25,9 @@ pub fn parse(line: &[u8]) -> Result<Call, String> {
     let fields: [&[u8]; 11] = fields.try_into().map_err(|_| "expected 11 fields".to_string())?;
     let flag = |n: usize| parse_flag(fields[n - 1]).ok_or_else(|| bad(n, "expected 0 or 1"));
     let bytes = |n: usize| {
-        let expected = || bad(n, &format!("expected lower-case hex of up to {LONGEST_SLICE} bytes"));
-        parse_bytes(fields[n - 1]).ok_or_else(expected)
+        let longest = if n == 9 { LONGEST_BUFFER } else { LONGEST_SLICE };
+        let expected = || bad(n, &format!("expected lower-case hex of up to {longest} bytes"));
+        parse_bytes(fields[n - 1], longest).ok_or_else(expected)
     };
     let variant = parse_variant(fields[0]).ok_or_else(|| bad(1, "expected 1272 or 1276"))?;
     let board = Board { variant, tcxo_used: flag(2)?, tx_boost: flag(3)?, rx_boost: flag(4)? };
@@ -100,11 +103,11 @@ fn parse_number(word: &[u8], argument: &Argument) -> Option<i128> {
     (argument.least..=argument.most).contains(&number).then_some(number)
 }
 
-fn parse_bytes(field: &[u8]) -> Option<Vec<u8>> {
+fn parse_bytes(field: &[u8], longest: usize) -> Option<Vec<u8>> {
     if field == b"-" {
         return Some(Vec::new());
     }
-    if field.is_empty() || field.len() % 2 != 0 || field.len() > 2 * LONGEST_SLICE {
+    if field.is_empty() || field.len() % 2 != 0 || field.len() > 2 * longest {
         return None;
     }
     field.chunks(2).map(|pair| Some(digit(pair[0])? << 4 | digit(pair[1])?)).collect()
@@ -137,7 +140,8 @@ pub fn print(outcome: &Outcome) -> String {
 
 /// Whether a line can hold the call.
 pub fn holds(call: &Call) -> bool {
-    [&call.image, &call.fifo, &call.buffer, &call.log].iter().all(|bytes| bytes.len() <= LONGEST_SLICE)
+    let others = [&call.image, &call.fifo, &call.log];
+    call.buffer.len() <= LONGEST_BUFFER && others.iter().all(|bytes| bytes.len() <= LONGEST_SLICE)
 }
 
 /// A call's line, without its LF.

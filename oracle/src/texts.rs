@@ -24,7 +24,7 @@ pub const EDGES: [i128; 27] = [
 ];
 
 /// Bytes of a file, and such as may stand there by mistake.
-const BYTES: [u8; 24] = *b"01256789\t\t\n\n\r \0+-./:,ax\xff";
+pub const BYTES: [u8; 24] = *b"01256789\t\t\n\n\r \0+-./:,ax\xff";
 
 pub fn put(text: &mut Vec<u8>, line: &Line) {
     let [id, sf, bw, cr, preamble, length, implicit, crc] = line;
@@ -81,10 +81,10 @@ pub fn any_line(random: &mut Random) -> Line {
     line
 }
 
-/// A byte put otherwise, left out, put in, or the last that there is.
-pub fn spoil(random: &mut Random, text: &mut Vec<u8>) {
+/// A byte put otherwise, left out, put in, or the last that there is; a new one is one of these.
+pub fn spoil(random: &mut Random, text: &mut Vec<u8>, bytes: &[u8]) {
     let place = random.below(text.len() as u64 + 1) as usize;
-    let byte = random.pick(&BYTES);
+    let byte = random.pick(bytes);
     match random.below(4) {
         0 if place < text.len() => text[place] = byte,
         1 if place < text.len() => drop(text.remove(place)),

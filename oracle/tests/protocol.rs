@@ -40,8 +40,34 @@ fn depots() {
     assert_eq!(asked(line), format!("0 0 0 0 0 0 0 0 41216 0 0\t00ff\tf0\t{line}\te0e1\t77"));
     assert_eq!(asked("-"), "0 0 0 0 0 0 0 0 0 0 0\t00ff\tf0\t-\te0e1\t77");
     assert_eq!(asked(&format!("{line}0a")), format!("28 2\t00ff\tf0\t{line}0a\te0e1\t77"));
-    assert_eq!(asked(""), "?\tfield 9: expected lower-case hex of up to 1024 bytes");
+    assert_eq!(asked(""), "?\tfield 9: expected lower-case hex of up to 4096 bytes");
     assert_eq!(with(5, "airtime"), "?\tfield 6: expected arguments: -");
+}
+
+/// An Intel HEX text is the buffer, and so is the room for one.
+#[test]
+fn images() {
+    let asked = |operation: &str, image: &str, buffer: &str| {
+        answer(format!("1276\t0\t1\t0\t{operation}\t-\t{image}\tf0\t{buffer}\te0e1\t77").as_bytes())
+    };
+    let (image, room) = ("5a".repeat(128), "bb".repeat(370));
+    let row = |place: usize| {
+        format!(":10{:04X}00{}{:02X}\n", 16 * place, "5A".repeat(16), 0x50u8.wrapping_sub(16 * place as u8))
+    };
+    let text = (0..8).map(row).collect::<String>() + ":00000001FF\n";
+    let text: String = text.bytes().map(|byte| format!("{byte:02x}")).collect();
+    let written = format!("{text}{}", "bb".repeat(6));
+    assert_eq!(asked("write_hex", &image, &room), format!("0 364\t{image}\tf0\t{written}\te0e1\t77"));
+    assert_eq!(asked("write_hex", &image, &room[14..]), format!("41\t{image}\tf0\t{}\te0e1\t77", &room[14..]));
+    assert_eq!(asked("write_hex", "5a", "-"), "26\t5a\tf0\t-\te0e1\t77");
+    let present = "1a".repeat(128);
+    assert_eq!(asked("read_hex", &present, &text), format!("0\t{image}\tf0\t{text}\te0e1\t77"));
+    assert_eq!(asked("read_hex", &present, &text[2..]), format!("29\t{present}\tf0\t{}\te0e1\t77", &text[2..]));
+    assert_eq!(asked("read_hex", &present, "-"), format!("32\t{present}\tf0\t-\te0e1\t77"));
+    assert_eq!(asked("read_hex", "1a1a", &text), format!("26\t1a1a\tf0\t{text}\te0e1\t77"));
+    for operation in ["write_hex", "read_hex"] {
+        assert_eq!(with(5, operation), "?\tfield 6: expected arguments: -");
+    }
 }
 
 #[test]
@@ -59,7 +85,8 @@ fn bad_fields() {
     }
     assert_eq!(with(5, "do_tx"), "?\tfield 6: expected arguments: -");
     for (field, hex) in (7..=10).flat_map(|field| ["", "0", "0g", "AB", "- "].map(|hex| (field, hex))) {
-        assert_eq!(with(field, hex), format!("?\tfield {field}: expected lower-case hex of up to 1024 bytes"));
+        let longest = if field == 9 { 4_096 } else { 1_024 };
+        assert_eq!(with(field, hex), format!("?\tfield {field}: expected lower-case hex of up to {longest} bytes"));
     }
     for used in ["", "-", "-1", "+1", "1 ", "18446744073709551616"] {
         assert_eq!(with(11, used), "?\tfield 11: expected a decimal number");
@@ -68,8 +95,12 @@ fn bad_fields() {
 
 #[test]
 fn edges() {
-    assert_eq!(with(8, &"ab".repeat(1_024)).len(), "26\t00ff\t-\t-\t-\t0".len() + 2_047);
-    assert_eq!(with(8, &"ab".repeat(1_025)), "?\tfield 8: expected lower-case hex of up to 1024 bytes");
+    for (field, longest) in [(7, 1_024), (8, 1_024), (9, 4_096), (10, 1_024)] {
+        let more = 2 * longest - GOOD[field - 1].len();
+        assert_eq!(with(field, &"ab".repeat(longest)).len(), "26\t00ff\t-\t-\t-\t0".len() + more);
+        let bad = format!("?\tfield {field}: expected lower-case hex of up to {longest} bytes");
+        assert_eq!(with(field, &"ab".repeat(longest + 1)), bad);
+    }
     let rest = with(11, "18446744073709551615");
     assert_eq!(rest, "26\t00ff\t-\t-\t-\t18446744073709551615");
     let short = GOOD.join("\t").len() - 1;

@@ -6,7 +6,7 @@ use Rattle.params.specs.Errors.{numberOf}
 use Rattle.params.specs.LineFaults.{errorOf}
 use Rattle.text.specs.Numbers.{decimal}
 use Rattle.text.specs.Words.{ascii}
-use Rattle.replies.specs.Names.{nameOf}
+use Rattle.replies.specs.Names.{errorText}
 use Rattle.time_on_air.specs.FaultWords.{wordsOf}
 
 -- numbers, each between two texts
@@ -24,8 +24,5 @@ row totals = ascii "\t0" ++ (eachText (ascii "\t") [] totals ++ ascii "\n")
 abbrev pub refusedRow : LineFault → ℕ → List ℕ
 refusedRow f line = ascii "\t" ++ (decimal (numberOf (errorOf f)) ++ (ascii "\t" ++ (decimal line ++ ascii "\n")))
 
-abbrev pub refusalText : LineFault → List ℕ
-refusalText f = decimal (numberOf (errorOf f)) ++ (ascii " " ++ (nameOf (errorOf f) ++ ascii ": "))
-
 abbrev pub refusedText : LineFault → ℕ → List ℕ
-refusedText f line = ascii "line " ++ (decimal line ++ (ascii ": " ++ (refusalText f ++ (wordsOf f ++ ascii "\n"))))
+refusedText f line = ascii "line " ++ (decimal line ++ (ascii ": " ++ (errorText (errorOf f) ++ (wordsOf f ++ ascii "\n"))))

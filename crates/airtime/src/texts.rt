@@ -2,9 +2,9 @@
 ghost use Prim.Native.Nat.{_+_, _*_, _≤_};
 ghost use lib.ListN.{length};
 ghost use Rattle.text.specs.Text.{Appended};
-ghost use Rattle.airtime.specs.Texts.{eachText, lines, row, refusedRow, refusalText, refusedText};
+ghost use Rattle.airtime.specs.Texts.{eachText, lines, row, refusedRow, refusedText};
 use params::line_faults::LineFault;
-use replies::names::put_name;
+use replies::names::put_error;
 use text::printing::put;
 use text::put_decimals::put_decimal;
 use time_on_air::fault_words::put_words;
@@ -52,19 +52,6 @@ pub fn put_refused_row(f: LineFault, line: u64, out: &mut [u8], at: usize) -> us
     put(b"\n", out, at)
 }
 
-// The number and the name.
-fn put_refusal(f: LineFault, out: &mut [u8], at: usize) -> usize
-    requires { ⌜ at + 54 ≤ length (now out) ⌝ }
-    ensures { λ r. ⌜ Appended (refusalText f) at (now (out .entry)) r (now (out .exit)) ⌝ }
-    ensures { λ r. ⌜ r ≤ at + 54 ⌝ }
-{
-    let e = f.error();
-    let at = put_decimal(e.number() as u64, out, at);
-    let at = put(b" ", out, at);
-    let at = put_name(e, out, at);
-    put(b": ", out, at)
-}
-
 pub fn put_refused(f: LineFault, line: u64, out: &mut [u8], at: usize) -> usize
     requires { ⌜ at + 562 ≤ length (now out) ⌝ }
     ensures { λ r. ⌜ Appended (refusedText f line) at (now (out .entry)) r (now (out .exit)) ⌝ }
@@ -72,7 +59,7 @@ pub fn put_refused(f: LineFault, line: u64, out: &mut [u8], at: usize) -> usize
     let at = put(b"line ", out, at);
     let at = put_decimal(line, out, at);
     let at = put(b": ", out, at);
-    let at = put_refusal(f, out, at);
+    let at = put_error(f.error(), out, at);
     let at = put_words(f, out, at);
     put(b"\n", out, at)
 }

@@ -8,9 +8,12 @@ use params::answers::LinkAnswer;
 use params::answers::ModulationAnswer;
 use params::answers::PacketAnswer;
 use params::answers::PayloadAnswer;
+use params::answers::ReadHexAnswer;
 use params::answers::StatusAnswer;
+use params::answers::WriteHexAnswer;
 use replies::airtime_values;
 use replies::answers;
+use replies::hex_values;
 use replies::link_values;
 use replies::modulation_values;
 use replies::packet_values;
@@ -98,5 +101,21 @@ pub fn airtime(a: AirtimeAnswer, totals: &[u64; 10], used: usize, out: &mut [u8]
     ensures { λ r. ⌜ r .at ≤ 230 ⌝ }
 {
     let at = airtime_values::put_airtime(a, totals, out, 0);
+    Told { at, used }
+}
+
+pub fn written(a: WriteHexAnswer, used: usize, out: &mut [u8]) -> Told
+    requires { ⌜ 230 ≤ length (now out) ⌝ }
+    ensures { λ r. ⌜ r .at ≤ 230 ⌝ }
+{
+    let at = hex_values::put_written(a, out, 0);
+    Told { at, used }
+}
+
+pub fn read(a: ReadHexAnswer, used: usize, out: &mut [u8]) -> Told
+    requires { ⌜ 230 ≤ length (now out) ⌝ }
+    ensures { λ r. ⌜ r .at ≤ 230 ⌝ }
+{
+    let at = hex_values::put_read(a, out, 0);
     Told { at, used }
 }

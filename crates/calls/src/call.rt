@@ -106,6 +106,8 @@ fn act(
             answers::received(sx127x::get_rx_payload(image, fifo, log, used, buffer), out)
         }
         Operation::Airtime => report(buffer, used, out),
+        Operation::WriteHex => answers::written(intel_hex::write_hex(image, buffer), used, out),
+        Operation::ReadHex => answers::read(intel_hex::read_hex(buffer, image), used, out),
         _ => {
             let args = field(line, TAB, 5);
             act_on_registers(o, args, board(line), used, image, log, out)
@@ -134,7 +136,7 @@ fn run_over(
     out: &mut [u8],
 ) -> usize
     requires { ⌜ (length (now image) ≤ 1024) × (length (now fifo) ≤ 1024) ⌝ }
-    requires { ⌜ (length (now buffer) ≤ 1024) × (length (now log) ≤ 1024) × (8452 ≤ length (now out)) ⌝ }
+    requires { ⌜ (length (now buffer) ≤ 4096) × (length (now log) ≤ 1024) × (14596 ≤ length (now out)) ⌝ }
     ensures { λ r. ⌜ Counts r (now (out .exit)) ⌝ }
 {
     let used = count(field(line, TAB, 10), SPACE, 0);
@@ -144,12 +146,12 @@ fn run_over(
 
 // Does the call that a line asks and puts its outcome's line into out.
 fn run(o: Operation, line: &[u8], out: &mut [u8]) -> usize
-    requires { ⌜ 8452 ≤ length (now out) ⌝ }
+    requires { ⌜ 14596 ≤ length (now out) ⌝ }
     ensures { λ r. ⌜ Counts r (now (out .exit)) ⌝ }
 {
     let mut image = [0u8; 1024];
     let mut fifo = [0u8; 1024];
-    let mut buffer = [0u8; 1024];
+    let mut buffer = [0u8; 4096];
     let mut log = [0u8; 1024];
     let i = lend(field(line, TAB, 6), &mut image);
     let f = lend(field(line, TAB, 7), &mut fifo);
@@ -168,7 +170,7 @@ fn run(o: Operation, line: &[u8], out: &mut [u8]) -> usize
 
 // Puts the line that answers a line into out, which has room for the longest.
 pub fn answer(line: &[u8], out: &mut [u8]) -> usize
-    requires { ⌜ 8452 ≤ length (now out) ⌝ }
+    requires { ⌜ 14596 ≤ length (now out) ⌝ }
     ensures { λ r. ⌜ Counts r (now (out .exit)) ⌝ }
 {
     match requests::judged(line) {

@@ -23,7 +23,7 @@ enum Turn {
 }
 
 fn write_answer(line: &[u8]) -> bool {
-    let mut out = [0u8; 8452];
+    let mut out = [0u8; 14596];
     let n = answer(line, &mut out);
     let written = io::write_all(STDOUT_FILENO, &out[..n]);
     if !written {

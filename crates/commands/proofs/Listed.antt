@@ -21,6 +21,6 @@ module _ (w words : List ℕ) (os : List Operation) (k : ℕ) (h : k < length os
   pub not-this : alike w (fieldAt 32 k words) ≡ false → foundFrom w words k (drop k os) ≡ foundFrom w words (k + 1) (drop (k + 1) os)
   not-this e = rw (add-one k, drop-cons os k InitLora, e)
 
-pub all : length operations ≡ 23
+pub all : length operations ≡ 25
 unfolding operations
 all = refl

@@ -5,7 +5,7 @@ use Prim.Native.Nat.{ℕ, suc}
 use Rattle.text.specs.Fields.{fieldAt}
 use Rattle.text.specs.Words.{ascii, alike}
 use Rattle.commands.specs.declared.Operation.{Operation}
-use Rattle.commands.specs.declared.Operation.the-variants.{InitLora, CreateModulationParams, CreatePacketParams, Reset, SetStandby, SetSleep, SetTxRxBufferBaseAddress, SetTxPowerAndRampTime, SetModulationParams, SetPacketParams, SetChannel, SetPayload, DoTx, DoRx, GetRxPayload, GetRxPacketStatus, DoCad, SetIrqParams, ProcessIrqEvent, SetTxContinuousWaveMode, Program, ReadLink, Airtime}
+use Rattle.commands.specs.declared.Operation.the-variants.{InitLora, CreateModulationParams, CreatePacketParams, Reset, SetStandby, SetSleep, SetTxRxBufferBaseAddress, SetTxPowerAndRampTime, SetModulationParams, SetPacketParams, SetChannel, SetPayload, DoTx, DoRx, GetRxPayload, GetRxPacketStatus, DoCad, SetIrqParams, ProcessIrqEvent, SetTxContinuousWaveMode, Program, ReadLink, Airtime, WriteHex, ReadHex}
 use Rattle.commands.specs.declared.Named.{Named}
 use Rattle.commands.specs.declared.Named.the-variants.{Known, Unknown}
 
@@ -49,6 +49,8 @@ name SetTxContinuousWaveMode = ascii "set_tx_continuous_wave_mode"
 name Program = ascii "program"
 name ReadLink = ascii "read_link"
 name Airtime = ascii "airtime"
+name WriteHex = ascii "write_hex"
+name ReadHex = ascii "read_hex"
 
 abbrev pub arguments : Operation → List ℕ
 arguments InitLora = ascii "public"
@@ -74,6 +76,8 @@ arguments SetTxContinuousWaveMode = ascii "-"
 arguments Program = ascii "public sf bw cr hz preamble implicit crc iq power"
 arguments ReadLink = ascii "-"
 arguments Airtime = ascii "-"
+arguments WriteHex = ascii "-"
+arguments ReadHex = ascii "-"
 
 abbrev pub kinds : Operation → List ℕ
 kinds InitLora = byte ∷ []
@@ -99,11 +103,13 @@ kinds SetTxContinuousWaveMode = []
 kinds Program = byte ∷ byte ∷ byte ∷ byte ∷ hertz ∷ word ∷ byte ∷ byte ∷ byte ∷ power ∷ []
 kinds ReadLink = []
 kinds Airtime = []
+kinds WriteHex = []
+kinds ReadHex = []
 
 -- in the order in which their words are listed
 unfoldable pub operations : List Operation
 operations =
-    Reset ∷ SetStandby ∷ SetSleep ∷ DoTx ∷ DoRx ∷ DoCad ∷ SetTxContinuousWaveMode ∷ CreatePacketParams ∷ SetPacketParams ∷ SetPayload ∷ GetRxPayload ∷ GetRxPacketStatus ∷ SetIrqParams ∷ ProcessIrqEvent ∷ InitLora ∷ SetTxRxBufferBaseAddress ∷ SetTxPowerAndRampTime ∷ CreateModulationParams ∷ SetModulationParams ∷ SetChannel ∷ Program ∷ ReadLink ∷ Airtime ∷ []
+    Reset ∷ SetStandby ∷ SetSleep ∷ DoTx ∷ DoRx ∷ DoCad ∷ SetTxContinuousWaveMode ∷ CreatePacketParams ∷ SetPacketParams ∷ SetPayload ∷ GetRxPayload ∷ GetRxPacketStatus ∷ SetIrqParams ∷ ProcessIrqEvent ∷ InitLora ∷ SetTxRxBufferBaseAddress ∷ SetTxPowerAndRampTime ∷ CreateModulationParams ∷ SetModulationParams ∷ SetChannel ∷ Program ∷ ReadLink ∷ Airtime ∷ WriteHex ∷ ReadHex ∷ []
 
 -- the first of some operations whose word this is
 abbrev pub among : (Operation → List ℕ) → List ℕ → List Operation → Named

@@ -34,6 +34,8 @@ pub enum Operation {
     Program,
     ReadLink,
     Airtime,
+    WriteHex,
+    ReadHex,
 }
 
 pub enum Named {
@@ -41,7 +43,7 @@ pub enum Named {
     Unknown,
 }
 
-const OPERATIONS: [Operation; 23] = [
+const OPERATIONS: [Operation; 25] = [
     Operation::Reset,
     Operation::SetStandby,
     Operation::SetSleep,
@@ -65,10 +67,12 @@ const OPERATIONS: [Operation; 23] = [
     Operation::Program,
     Operation::ReadLink,
     Operation::Airtime,
+    Operation::WriteHex,
+    Operation::ReadHex,
 ];
 
 fn operation_at(k: usize) -> Operation
-    requires { ⌜ k < 23 ⌝ }
+    requires { ⌜ k < 25 ⌝ }
     ensures { λ r. ⌜ r ≡ getD operations k Operation.InitLora ⌝ }
 {
     OPERATIONS[k]
@@ -79,7 +83,7 @@ pub fn found(w: &[u8], words: &[u8]) -> Named
     ensures { λ r. ⌜ r ≡ foundFrom (now (w .entry)) (now (words .entry)) 0 operations ⌝ }
 {
     let mut k = 0;
-    while k < 23 {
+    while k < 25 {
         if same(w, field(words, b' ', k)) {
             return Named::Known(operation_at(k));
         }
@@ -93,6 +97,6 @@ pub fn operation_named(w: &[u8]) -> Named
 {
     found(
         w,
-        b"reset set_standby set_sleep do_tx do_rx do_cad set_tx_continuous_wave_mode create_packet_params set_packet_params set_payload get_rx_payload get_rx_packet_status set_irq_params process_irq_event init_lora set_tx_rx_buffer_base_address set_tx_power_and_ramp_time create_modulation_params set_modulation_params set_channel program read_link airtime",
+        b"reset set_standby set_sleep do_tx do_rx do_cad set_tx_continuous_wave_mode create_packet_params set_packet_params set_payload get_rx_payload get_rx_packet_status set_irq_params process_irq_event init_lora set_tx_rx_buffer_base_address set_tx_power_and_ramp_time create_modulation_params set_modulation_params set_channel program read_link airtime write_hex read_hex",
     )
 }

@@ -65,6 +65,8 @@ pub fn row_of(o: Operation) -> usize
         Operation::Program => 12,
         Operation::ReadLink => 0,
         Operation::Airtime => 0,
+        Operation::WriteHex => 0,
+        Operation::ReadHex => 0,
     }
 }
 

@@ -7,12 +7,12 @@ use denote.Enum.Declared.{tagOf}
 use types.Run.{OneOf, miss}
 use Rattle.params.specs.declared.board.Board.{Board}
 use Rattle.commands.specs.declared.Operation.{Operation}
-use Rattle.commands.specs.declared.Operation.the-variants.{InitLora, CreateModulationParams, CreatePacketParams, Reset, SetStandby, SetSleep, SetTxRxBufferBaseAddress, SetTxPowerAndRampTime, SetModulationParams, SetPacketParams, SetChannel, SetPayload, DoTx, DoRx, GetRxPayload, GetRxPacketStatus, DoCad, SetIrqParams, ProcessIrqEvent, SetTxContinuousWaveMode, Program, ReadLink, Airtime}
+use Rattle.commands.specs.declared.Operation.the-variants.{InitLora, CreateModulationParams, CreatePacketParams, Reset, SetStandby, SetSleep, SetTxRxBufferBaseAddress, SetTxPowerAndRampTime, SetModulationParams, SetPacketParams, SetChannel, SetPayload, DoTx, DoRx, GetRxPayload, GetRxPacketStatus, DoCad, SetIrqParams, ProcessIrqEvent, SetTxContinuousWaveMode, Program, ReadLink, Airtime, WriteHex, ReadHex}
 use Rattle.commands.proofs.Operation as operation
 use Rattle.dispatch.specs.Dispatch.{done, idle}
 
 abbrev pub answeringOtherwise : List ℕ
-answeringOtherwise = 1 ∷ 2 ∷ 11 ∷ 14 ∷ 15 ∷ 18 ∷ 21 ∷ 22 ∷ []
+answeringOtherwise = 1 ∷ 2 ∷ 11 ∷ 14 ∷ 15 ∷ 18 ∷ 21 ∷ 22 ∷ 23 ∷ 24 ∷ []
 
 module _ (parting : ℕ) (s : List ℕ) (board : Board) where
   pub others : (o : Operation) → OneOf answeringOtherwise (tagOf operation.the-type o) → done o parting s board ≡ idle
@@ -40,3 +40,5 @@ module _ (parting : ℕ) (s : List ℕ) (board : Board) where
   others Program h = absurd (miss answeringOtherwise 20 tt h)
   others ReadLink h = refl
   others Airtime h = refl
+  others WriteHex h = refl
+  others ReadHex h = refl

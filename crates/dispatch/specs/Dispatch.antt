@@ -12,7 +12,7 @@ use Rattle.operations.specs.Modem.{createModulation, createPacket, setModulatio
 use Rattle.operations.specs.Programming.{programLink}
 use Rattle.operations.specs.Interrupts.{setIrq}
 use Rattle.commands.specs.declared.Operation.{Operation}
-use Rattle.commands.specs.declared.Operation.the-variants.{InitLora, CreateModulationParams, CreatePacketParams, Reset, SetStandby, SetSleep, SetTxRxBufferBaseAddress, SetTxPowerAndRampTime, SetModulationParams, SetPacketParams, SetChannel, SetPayload, DoTx, DoRx, GetRxPayload, GetRxPacketStatus, DoCad, SetIrqParams, ProcessIrqEvent, SetTxContinuousWaveMode, Program, ReadLink, Airtime}
+use Rattle.commands.specs.declared.Operation.the-variants.{InitLora, CreateModulationParams, CreatePacketParams, Reset, SetStandby, SetSleep, SetTxRxBufferBaseAddress, SetTxPowerAndRampTime, SetModulationParams, SetPacketParams, SetChannel, SetPayload, DoTx, DoRx, GetRxPayload, GetRxPacketStatus, DoCad, SetIrqParams, ProcessIrqEvent, SetTxContinuousWaveMode, Program, ReadLink, Airtime, WriteHex, ReadHex}
 use Rattle.commands.specs.Operations.{byte, word, hertz, count}
 use Rattle.commands.specs.Arguments.{argument, signedArgument}
 use Rattle.commands.specs.Records.{modulation, packet, link}
@@ -55,3 +55,5 @@ done SetTxContinuousWaveMode parting s board = setCarrier (board .variant)
 done Program parting s board = programLink board (link parting s)
 done ReadLink parting s board = idle
 done Airtime parting s board = idle
+done WriteHex parting s board = idle
+done ReadHex parting s board = idle

@@ -1,13 +1,13 @@
--- Hex text taken apart at its next character, and bytes copied whole.
+-- Hex text taken apart at its next character, and a place that is filled.
 -- Assumes nothing.
 use mathlib.Core.Path.{_≡_, refl}
 use mathlib.Core.Bool.{true}
 use mathlib.Core.List.{List, [], _++_, append-nil}
-use Prim.Native.Nat.{ℕ, _+_, _≤_, _<_}
+use Prim.Native.Nat.{ℕ, _+_, _<_}
 use native.Mathlib.Numerals.{add-one}
 use borrow.Author.Tests.{eqb-true}
 use lib.Dec.{eqb}
-use lib.ListN.{length, take, drop, getD, drop-of-length-le}
+use lib.ListN.{length, take, drop, getD}
 use lib.Seq.{drop-cons, take-length}
 use Rattle.dump.specs.declared.hex_text.State.{State}
 use Rattle.dump.specs.Text.{stepAt, next, given, bytesFrom, unless, verdictFrom}
@@ -22,10 +22,6 @@ module _ (s : List ℕ) (i : ℕ) (h : i < length s) where
   pub verdict-more : (t : State) (n : ℕ)
       → verdictFrom t i n (drop i s) ≡ unless (stepAt t (getD s i 0)) i (verdictFrom (next (stepAt t (getD s i 0))) (i + 1) (n + length (given (stepAt t (getD s i 0)))) (drop (i + 1) s))
   verdict-more t n = rw (drop-cons s i 0) (rw (add-one i) refl)
-
--- a copy of as many bytes as there are
-pub copied : (bytes old : List ℕ) → length old ≤ length bytes → take (length bytes) bytes ++ drop (length bytes) old ≡ bytes
-copied bytes old h = rw (take-length bytes, drop-of-length-le old {i = length bytes} h) (append-nil bytes)
 
 -- a place that is filled
 pub filled : (bytes : List ℕ) (n : ℕ) → n ≡ length bytes → take n bytes ++ [] ≡ bytes

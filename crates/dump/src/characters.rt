@@ -1,9 +1,9 @@
-// The characters of hex text.
+// The characters of hex text, and those of records.
 ghost use mathlib.Core.Path.{_≡_};
-ghost use Rattle.dump.specs.Characters.{isBlank, isX, kindOf};
+ghost use Rattle.dump.specs.Characters.{isBlank, isX, kindOf, inRecords};
 ghost use Rattle.dump.specs.Dump.{couldBeHex};
-use text::hex::is_nibble;
-use text::hex::nibble;
+use text::hex::is_any_digit;
+use text::hex::worth;
 
 pub(crate) enum Kind {
     Digit(u8),
@@ -37,11 +37,8 @@ fn is_x(c: u8) -> bool
 pub(crate) fn kind_of(c: u8) -> Kind
     ensures { λ r. ⌜ r ≡ kindOf c ⌝ }
 {
-    if is_nibble(c, b'a') {
-        return Kind::Digit(nibble(c, b'a'));
-    }
-    if is_nibble(c, b'A') {
-        return Kind::Digit(nibble(c, b'A'));
+    if is_any_digit(c) {
+        return Kind::Digit(worth(c));
     }
     if is_blank(c) {
         return Kind::Blank;
@@ -56,4 +53,19 @@ pub(crate) fn could_be_hex(c: u8) -> bool
         Kind::Other => false,
         _ => true,
     }
+}
+
+pub(crate) fn in_records(c: u8) -> bool
+    ensures { λ r. ⌜ r ≡ inRecords c ⌝ }
+{
+    if is_any_digit(c) {
+        return true;
+    }
+    if c == b':' {
+        return true;
+    }
+    if c == b'\r' {
+        return true;
+    }
+    c == b'\n'
 }

@@ -7,13 +7,16 @@ ghost use Rattle.dump.specs.Dump.{leave, textRead, textLeft};
 ghost use Rattle.dump.specs.Text.{onDigit, onBlank, onX, stepAt, next as nextOf, given, ended};
 use crate::characters::Kind;
 use crate::characters::kind_of;
+use params::hex_faults::HexFault;
 
-// What an input holds: an image, another number of bytes than 128, or a place where a digit is missing or a character is bad.
+// What an input holds: an image, another number of bytes than 128, a place where a digit is missing or a character is bad, or a
+// line of records that is bad.
 pub enum Read {
     Image,
     Bytes(usize),
     Missing(usize),
     Bad(usize),
+    Record(HexFault, usize),
 }
 
 // Between bytes, behind a first 0, behind 0x, or behind a first digit.

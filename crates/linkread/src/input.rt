@@ -19,7 +19,7 @@ fn say_unread(a: Asked, name: &[u8]) {
 }
 
 fn say_fault(a: Asked, name: &[u8], read: Read, text: &[u8]) {
-    let mut out = [0u8; 256];
+    let mut out = [0u8; 1024];
     let n = faults::put_fault(read, text, &mut out, 0);
     let o = a.options;
     say(a, name, b"");
@@ -42,7 +42,7 @@ pub fn show_input(a: Asked, name: &[u8], fd: i32) {
         Input::More => say(
             a,
             name,
-            b"more than 65535 bytes, and no hex text of an image is so long\n",
+            b"more than 65535 bytes, which linkread does not take\n",
         ),
         Input::Failed => say_unread(a, name),
     }

@@ -26,11 +26,15 @@ fn help_on_input() {
     );
     io::write_all(
         fd,
-        b"128 raw bytes, or hex text, two digits a byte, 0x before a byte or not, white space between bytes or none.\n",
+        b"Intel HEX; 128 raw bytes; or hex text, two digits a byte, 0x before a byte or not, white space between or none.\n",
     );
     io::write_all(
         fd,
-        b"Input of 128 bytes is raw unless each is a hex digit, white space or x; all other input is hex text.\n",
+        b"Input that begins with a colon is Intel HEX, but 128 bytes with one that is no hex digit, colon, CR or LF are raw.\n",
+    );
+    io::write_all(
+        fd,
+        b"Other input of 128 bytes is raw unless each is a hex digit, white space or x; all other input is hex text.\n",
     );
     io::write_all(fd, b"Without 1272 or 1276 every board is tried.\n");
 }

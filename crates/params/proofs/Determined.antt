@@ -8,7 +8,7 @@ use lib.Dec.{eqb}
 use lib.ListN.{getD}
 use lib.IntN.{ℤ, pos, natAbs}
 use Rattle.params.specs.declared.mod_params.RadioError.{RadioError}
-use Rattle.params.specs.declared.mod_params.RadioError.the-variants.{SPI, Reset, RfSwitchRx, RfSwitchTx, Busy, Irq, DIO1, InvalidConfiguration, InvalidRadioMode, OpError, InvalidBaseAddress, PayloadSizeUnexpected, PayloadSizeMismatch, UnavailableSpreadingFactor, UnavailableBandwidth, InvalidBandwidthForFrequency, InvalidSF6ExplicitHeaderRequest, InvalidOutputPowerForFrequency, TransmitTimeout, ReceiveTimeout, DutyCycleUnsupported, RngUnsupported, FrequencyOutOfRange, LogFull, CarrierUnsupported, BadImage, NotALink, BadLine}
+use Rattle.params.specs.declared.mod_params.RadioError.the-variants.{SPI, Reset, RfSwitchRx, RfSwitchTx, Busy, Irq, DIO1, InvalidConfiguration, InvalidRadioMode, OpError, InvalidBaseAddress, PayloadSizeUnexpected, PayloadSizeMismatch, UnavailableSpreadingFactor, UnavailableBandwidth, InvalidBandwidthForFrequency, InvalidSF6ExplicitHeaderRequest, InvalidOutputPowerForFrequency, TransmitTimeout, ReceiveTimeout, DutyCycleUnsupported, RngUnsupported, FrequencyOutOfRange, LogFull, CarrierUnsupported, BadImage, NotALink, BadLine, BadHex, BadSum, WrongPlace, Incomplete, TextFull}
 use Rattle.params.specs.declared.units.Hertz.{Hertz}
 use Rattle.params.specs.declared.answers.Answer.{Answer}
 use Rattle.params.specs.declared.answers.Answer.the-variants as plain
@@ -35,6 +35,7 @@ signed i vs = getD vs i (pos 0)
 abbrev value : ℕ → List ℤ → ℕ
 value i vs = natAbs (signed i vs)
 
+-- 41 stands behind the list
 abbrev errorOf : ℕ → List ℤ → RadioError
 errorOf n vs =
     getD
@@ -65,8 +66,12 @@ errorOf n vs =
     ∷ CarrierUnsupported
     ∷ BadImage
     ∷ NotALink
-    ∷ BadLine ∷ [])
-    (n - 1) SPI
+    ∷ BadLine
+    ∷ BadHex
+    ∷ BadSum
+    ∷ WrongPlace
+    ∷ Incomplete ∷ [])
+    (n - 1) TextFull
 
 -- an error is had back from what it tells, and its number is not 0
 error-back : (e : RadioError) → (errorOf (numberOf e) (valuesOf e) ≡ e) × (eqb (numberOf e) 0 ≡ false)
@@ -98,6 +103,11 @@ error-back CarrierUnsupported = (refl, refl)
 error-back BadImage = (refl, refl)
 error-back NotALink = (refl, refl)
 error-back BadLine = (refl, refl)
+error-back BadHex = (refl, refl)
+error-back BadSum = (refl, refl)
+error-back WrongPlace = (refl, refl)
+error-back Incomplete = (refl, refl)
+error-back TextFull = (refl, refl)
 
 -- ---- answers
 

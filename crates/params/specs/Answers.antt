@@ -22,8 +22,13 @@ use Rattle.params.specs.declared.answers.LinkAnswer.{LinkAnswer}
 use Rattle.params.specs.declared.answers.LinkAnswer.the-variants as link
 use Rattle.params.specs.declared.answers.AirtimeAnswer.{AirtimeAnswer}
 use Rattle.params.specs.declared.answers.AirtimeAnswer.the-variants as airtime
+use Rattle.params.specs.declared.answers.WriteHexAnswer.{WriteHexAnswer}
+use Rattle.params.specs.declared.answers.WriteHexAnswer.the-variants as writing
+use Rattle.params.specs.declared.answers.ReadHexAnswer.{ReadHexAnswer}
+use Rattle.params.specs.declared.answers.ReadHexAnswer.the-variants as reading
 use Rattle.params.specs.Errors.{Told, told, plain as values, refusal, numberOf}
 use Rattle.params.specs.LineFaults.{errorOf}
+use Rattle.params.specs.HexFaults.{hexErrorOf}
 
 -- the values of the records that calls answer, in the order of their fields
 abbrev pub modulationValues : ModulationParams → List ℤ
@@ -102,3 +107,14 @@ tellsLink (link.Refused e) = refusal e
 abbrev pub tellsAirtime : AirtimeAnswer → List ℕ → Told
 tellsAirtime airtime.Totals totals = told 0 (values totals)
 tellsAirtime (airtime.BadLine f line) totals = told (numberOf (errorOf f)) (pos line ∷ [])
+
+-- the bytes of the text that was written
+abbrev pub tellsWriteHex : WriteHexAnswer → Told
+tellsWriteHex (writing.Written size) = told 0 (pos size ∷ [])
+tellsWriteHex (writing.Refused e) = refusal e
+
+-- a refusal's number alone: which record is bad and why is for people
+abbrev pub tellsReadHex : ReadHexAnswer → Told
+tellsReadHex reading.Read = told 0 []
+tellsReadHex (reading.Bad f line) = refusal (hexErrorOf f)
+tellsReadHex (reading.Refused e) = refusal e

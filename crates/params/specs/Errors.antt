@@ -1,9 +1,9 @@
--- Document 01's number and values for each error, and which of two verdicts comes first.
+-- Document 01's and 02's number and values for each error, and which of two verdicts comes first.
 use mathlib.Core.List.{List, [], _∷_}
 use Prim.Native.Nat.{ℕ}
 use lib.IntN.{ℤ, pos}
 use Rattle.params.specs.declared.mod_params.RadioError.{RadioError}
-use Rattle.params.specs.declared.mod_params.RadioError.the-variants.{SPI, Reset, RfSwitchRx, RfSwitchTx, Busy, Irq, DIO1, InvalidConfiguration, InvalidRadioMode, OpError, InvalidBaseAddress, PayloadSizeUnexpected, PayloadSizeMismatch, UnavailableSpreadingFactor, UnavailableBandwidth, InvalidBandwidthForFrequency, InvalidSF6ExplicitHeaderRequest, InvalidOutputPowerForFrequency, TransmitTimeout, ReceiveTimeout, DutyCycleUnsupported, RngUnsupported, FrequencyOutOfRange, LogFull, CarrierUnsupported, BadImage, NotALink, BadLine}
+use Rattle.params.specs.declared.mod_params.RadioError.the-variants.{SPI, Reset, RfSwitchRx, RfSwitchTx, Busy, Irq, DIO1, InvalidConfiguration, InvalidRadioMode, OpError, InvalidBaseAddress, PayloadSizeUnexpected, PayloadSizeMismatch, UnavailableSpreadingFactor, UnavailableBandwidth, InvalidBandwidthForFrequency, InvalidSF6ExplicitHeaderRequest, InvalidOutputPowerForFrequency, TransmitTimeout, ReceiveTimeout, DutyCycleUnsupported, RngUnsupported, FrequencyOutOfRange, LogFull, CarrierUnsupported, BadImage, NotALink, BadLine, BadHex, BadSum, WrongPlace, Incomplete, TextFull}
 use Rattle.params.specs.declared.mod_params.Verdict.{Verdict}
 use Rattle.params.specs.declared.mod_params.Verdict.the-variants.{Clear, Refused}
 
@@ -49,6 +49,11 @@ numberOf CarrierUnsupported = 25
 numberOf BadImage = 26
 numberOf NotALink = 27
 numberOf BadLine = 28
+numberOf BadHex = 29
+numberOf BadSum = 30
+numberOf WrongPlace = 31
+numberOf Incomplete = 32
+numberOf TextFull = 41
 
 -- 10 its code, 11 both bases, 12 the length, 13 the packet's bytes and the buffer's; the others none
 abbrev pub valuesOf : RadioError → List ℤ
@@ -80,6 +85,11 @@ valuesOf CarrierUnsupported = []
 valuesOf BadImage = []
 valuesOf NotALink = []
 valuesOf BadLine = []
+valuesOf BadHex = []
+valuesOf BadSum = []
+valuesOf WrongPlace = []
+valuesOf Incomplete = []
+valuesOf TextFull = []
 
 abbrev pub refusal : RadioError → Told
 refusal e = told (numberOf e) (valuesOf e)

@@ -1,5 +1,6 @@
 pub mod Errors
 pub mod LineFaults
+pub mod HexFaults
 pub mod Answers
 pub mod Addresses
 pub mod Values

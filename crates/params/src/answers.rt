@@ -1,4 +1,5 @@
 // What calls answer. A call that appends to a log tells the bytes that are used afterwards, whatever its answer.
+use crate::hex_faults::HexFault;
 use crate::line_faults::LineFault;
 use crate::mod_params::Link;
 use crate::mod_params::ModulationParams;
@@ -54,4 +55,18 @@ pub enum LinkAnswer {
 pub enum AirtimeAnswer {
     Totals,
     BadLine(LineFault, u64),
+}
+
+// `write_hex`: the bytes of the text.
+pub enum WriteHexAnswer {
+    Written(usize),
+    Refused(RadioError),
+}
+
+// `read_hex`: the image stands in what was lent; or the first record that is bad, or what the text lacks, with its line from 1, is
+// why it does not; or no image was lent.
+pub enum ReadHexAnswer {
+    Read,
+    Bad(HexFault, usize),
+    Refused(RadioError),
 }

@@ -33,6 +33,11 @@ pub enum RadioError {
     BadImage,
     NotALink,
     BadLine,
+    BadHex,
+    BadSum,
+    WrongPlace,
+    Incomplete,
+    TextFull,
 }
 
 impl RadioError {
@@ -69,6 +74,11 @@ impl RadioError {
             RadioError::BadImage => 26,
             RadioError::NotALink => 27,
             RadioError::BadLine => 28,
+            RadioError::BadHex => 29,
+            RadioError::BadSum => 30,
+            RadioError::WrongPlace => 31,
+            RadioError::Incomplete => 32,
+            RadioError::TextFull => 41,
         }
     }
 }

@@ -1,10 +1,10 @@
 -- Short words for the operations.
-use mathlib.Core.Bool.{cond}
+use mathlib.Core.Bool.{Bool, cond, _||_}
 use mathlib.Core.List.{List}
 use Prim.Native.Nat.{ℕ}
 use Rattle.text.specs.Words.{ascii, alike}
 use Rattle.commands.specs.declared.Operation.{Operation}
-use Rattle.commands.specs.declared.Operation.the-variants.{InitLora, CreateModulationParams, CreatePacketParams, Reset, SetStandby, SetSleep, SetTxRxBufferBaseAddress, SetTxPowerAndRampTime, SetModulationParams, SetPacketParams, SetChannel, SetPayload, DoTx, DoRx, GetRxPayload, GetRxPacketStatus, DoCad, SetIrqParams, ProcessIrqEvent, SetTxContinuousWaveMode, Program, ReadLink, Airtime}
+use Rattle.commands.specs.declared.Operation.the-variants.{InitLora, CreateModulationParams, CreatePacketParams, Reset, SetStandby, SetSleep, SetTxRxBufferBaseAddress, SetTxPowerAndRampTime, SetModulationParams, SetPacketParams, SetChannel, SetPayload, DoTx, DoRx, GetRxPayload, GetRxPacketStatus, DoCad, SetIrqParams, ProcessIrqEvent, SetTxContinuousWaveMode, Program, ReadLink, Airtime, WriteHex, ReadHex}
 use Rattle.commands.specs.declared.Named.{Named}
 use Rattle.commands.specs.declared.Named.the-variants.{Known, Unknown}
 use Rattle.commands.specs.Operations.{operations, among, operationOf}
@@ -33,12 +33,18 @@ word SetTxContinuousWaveMode = ascii "carrier"
 word Program = ascii "program"
 word ReadLink = ascii "read"
 word Airtime = ascii "airtime"
+word WriteHex = ascii "write_hex"
+word ReadHex = ascii "read_hex"
 
 -- one name, or where it names nothing the other
 abbrev pub otherwise : Named → Named → Named
 otherwise (Known o) n = Known o
 otherwise Unknown n = n
 
--- by its word, or else by its own name; of airtime nothing goes over the bus, so it is no command
+-- the word of an operation that takes a text: nothing of it goes over the bus
+abbrev pub takesText : List ℕ → Bool
+takesText w = alike w (word Airtime) || (alike w (word WriteHex) || alike w (word ReadHex))
+
+-- by its word, or else by its own name; what takes a text is no command
 unfoldable pub commandOf : List ℕ → Named
-commandOf w = cond (alike w (word Airtime)) Unknown (otherwise (among word w operations) (operationOf w))
+commandOf w = cond (takesText w) Unknown (otherwise (among word w operations) (operationOf w))

@@ -10,7 +10,7 @@ use lib.ListN.{length, drop, getD}
 use lib.Seq.{drop-cons}
 use types.Run.{OneOf, miss}
 use Rattle.params.specs.declared.mod_params.RadioError.{RadioError}
-use Rattle.params.specs.declared.mod_params.RadioError.the-variants.{SPI, Reset, RfSwitchRx, RfSwitchTx, Busy, Irq, DIO1, InvalidConfiguration, InvalidRadioMode, OpError, InvalidBaseAddress, PayloadSizeUnexpected, PayloadSizeMismatch, UnavailableSpreadingFactor, UnavailableBandwidth, InvalidBandwidthForFrequency, InvalidSF6ExplicitHeaderRequest, InvalidOutputPowerForFrequency, TransmitTimeout, ReceiveTimeout, DutyCycleUnsupported, RngUnsupported, FrequencyOutOfRange, LogFull, CarrierUnsupported, BadImage, NotALink, BadLine}
+use Rattle.params.specs.declared.mod_params.RadioError.the-variants.{SPI, Reset, RfSwitchRx, RfSwitchTx, Busy, Irq, DIO1, InvalidConfiguration, InvalidRadioMode, OpError, InvalidBaseAddress, PayloadSizeUnexpected, PayloadSizeMismatch, UnavailableSpreadingFactor, UnavailableBandwidth, InvalidBandwidthForFrequency, InvalidSF6ExplicitHeaderRequest, InvalidOutputPowerForFrequency, TransmitTimeout, ReceiveTimeout, DutyCycleUnsupported, RngUnsupported, FrequencyOutOfRange, LogFull, CarrierUnsupported, BadImage, NotALink, BadLine, BadHex, BadSum, WrongPlace, Incomplete, TextFull}
 use Rattle.params.specs.Errors.{valuesOf, told, plain}
 use Rattle.params.proofs.mod_params.RadioError.{the-type}
 use Rattle.text.specs.Numbers.{decimal, signed}
@@ -23,7 +23,7 @@ value-more vs i h = rw (add-one i, drop-cons vs i 0)
 -- the places of the errors that have no values
 abbrev bare : List ℕ
 bare =
-    0 ∷ 1 ∷ 2 ∷ 3 ∷ 4 ∷ 5 ∷ 6 ∷ 7 ∷ 8 ∷ 13 ∷ 14 ∷ 15 ∷ 16 ∷ 17 ∷ 18 ∷ 19 ∷ 20 ∷ 21 ∷ 22 ∷ 23 ∷ 24 ∷ 25 ∷ 26 ∷ 27 ∷ []
+    0 ∷ 1 ∷ 2 ∷ 3 ∷ 4 ∷ 5 ∷ 6 ∷ 7 ∷ 8 ∷ 13 ∷ 14 ∷ 15 ∷ 16 ∷ 17 ∷ 18 ∷ 19 ∷ 20 ∷ 21 ∷ 22 ∷ 23 ∷ 24 ∷ 25 ∷ 26 ∷ 27 ∷ 28 ∷ 29 ∷ 30 ∷ 31 ∷ 32 ∷ []
 
 pub none : (e : RadioError) → OneOf bare (tagOf the-type e) → valuesOf e ≡ []
 none SPI h = refl
@@ -54,6 +54,11 @@ none CarrierUnsupported h = refl
 none BadImage h = refl
 none NotALink h = refl
 none BadLine h = refl
+none BadHex h = refl
+none BadSum h = refl
+none WrongPlace h = refl
+none Incomplete h = refl
+none TextFull h = refl
 
 -- ---- whole answers
 

@@ -12,6 +12,7 @@ use text::put_decimals::put_signed;
 
 pub mod airtime_values;
 pub mod answers;
+pub mod hex_values;
 pub mod left;
 pub mod link_values;
 pub mod modulation_values;

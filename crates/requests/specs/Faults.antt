@@ -6,7 +6,7 @@ use Rattle.text.specs.Numbers.{decimal}
 use Rattle.commands.specs.declared.Operation.{Operation}
 use Rattle.commands.specs.Operations.{arguments}
 use Rattle.requests.specs.declared.Fault.{Fault}
-use Rattle.requests.specs.declared.Fault.the-variants.{LongLine, FieldCount, Variant, Flag, UnknownOperation, Arguments, Bytes, Used}
+use Rattle.requests.specs.declared.Fault.the-variants.{LongLine, FieldCount, Variant, Flag, UnknownOperation, Arguments, Bytes, Buffer, Used}
 
 abbrev pub table : List ℕ
 table =
@@ -24,4 +24,5 @@ words (Flag n) = ascii "field " ++ (decimal n ++ ascii ": expected 0 or 1")
 words UnknownOperation = ascii "field 5: unknown operation"
 words (Arguments o) = wanted o
 words (Bytes n) = ascii "field " ++ (decimal n ++ ascii ": expected lower-case hex of up to 1024 bytes")
+words Buffer = ascii "field 9: expected lower-case hex of up to 4096 bytes"
 words Used = ascii "field 11: expected a decimal number"

@@ -12,7 +12,7 @@ use Rattle.text.specs.Words.{ascii, alike}
 use Rattle.commands.specs.declared.Named.{Named}
 use Rattle.commands.specs.declared.Named.the-variants.{Known, Unknown}
 use Rattle.requests.specs.declared.Fault.{Fault}
-use Rattle.requests.specs.declared.Fault.the-variants.{LongLine, FieldCount, Variant, Flag, UnknownOperation, Arguments, Bytes, Used}
+use Rattle.requests.specs.declared.Fault.the-variants.{LongLine, FieldCount, Variant, Flag, UnknownOperation, Arguments, Bytes, Buffer, Used}
 use Rattle.requests.specs.declared.Flaw.{Flaw}
 use Rattle.requests.specs.declared.Flaw.the-variants.{Clear, Wrong}
 use Rattle.commands.specs.Operations.{count, kinds, operationOf}
@@ -32,16 +32,21 @@ at k line = fieldAt 9 k line
 abbrev pub isEither : List ℕ → List ℕ → List ℕ → Bool
 isEither a b s = alike s a || alike s b
 
--- 1 to 1,024 bytes, or none
-abbrev pub isLent : List ℕ → Bool
-isLent s = alike s (ascii "-") || (leb 1 (length s) && (leb (length s) 2048 && hexDigits (ten Lower) s))
+-- bytes in so many digits at most, or none
+abbrev pub isLent : ℕ → List ℕ → Bool
+isLent digits s = alike s (ascii "-") || (leb 1 (length s) && (leb (length s) digits && hexDigits (ten Lower) s))
 
 -- field k, which is told as number n
 unfoldable pub flagFlaw : ℕ → ℕ → List ℕ → Flaw
 flagFlaw k n line = checked (isEither (ascii "0") (ascii "1") (at k line)) (Flag n)
 
+-- an image, a FIFO or a log: up to 1,024 bytes
 unfoldable pub bytesFlaw : ℕ → ℕ → List ℕ → Flaw
-bytesFlaw k n line = checked (isLent (at k line)) (Bytes n)
+bytesFlaw k n line = checked (isLent 2048 (at k line)) (Bytes n)
+
+-- a buffer: up to 4,096
+unfoldable pub bufferFlaw : List ℕ → Flaw
+bufferFlaw line = checked (isLent 8192 (at 8 line)) Buffer
 
 unfoldable pub headFlaw : List ℕ → Flaw
 headFlaw line =
@@ -56,7 +61,7 @@ unfoldable pub askedFlaw : List ℕ → Flaw
 askedFlaw line = argumentsFlaw (operationOf (at 4 line)) (at 5 line)
 
 unfoldable pub lentFlaw : List ℕ → Flaw
-lentFlaw line = orElse (bytesFlaw 6 7 line) (orElse (bytesFlaw 7 8 line) (orElse (bytesFlaw 8 9 line) (bytesFlaw 9 10 line)))
+lentFlaw line = orElse (bytesFlaw 6 7 line) (orElse (bytesFlaw 7 8 line) (orElse (bufferFlaw line) (bytesFlaw 9 10 line)))
 
 unfoldable pub usedFlaw : List ℕ → Flaw
 usedFlaw line = checked (isNumber (numberOf count (at 10 line))) Used

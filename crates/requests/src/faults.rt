@@ -53,6 +53,11 @@ fn put_words(f: Fault, out: &mut [u8], at: usize) -> usize
             out,
             at,
         ),
+        Fault::Buffer => put(
+            b"field 9: expected lower-case hex of up to 4096 bytes",
+            out,
+            at,
+        ),
         Fault::Used => put(b"field 11: expected a decimal number", out, at),
     }
 }

@@ -1,6 +1,6 @@
 // Whether a line is a call: what is wrong with it, and that in words.
 ghost use mathlib.Core.Path.{_≡_};
-ghost use Rattle.requests.specs.Flaws.{orElse, checked, isEither, isLent, flagFlaw, bytesFlaw, headFlaw, askedFlaw, lentFlaw, usedFlaw, flawOf};
+ghost use Rattle.requests.specs.Flaws.{orElse, checked, isEither, isLent, flagFlaw, bytesFlaw, bufferFlaw, headFlaw, askedFlaw, lentFlaw, usedFlaw, flawOf};
 use commands::Named;
 use commands::Operation;
 use commands::arguments::arguments_fit;
@@ -27,6 +27,7 @@ pub enum Fault {
     UnknownOperation,
     Arguments(Operation),
     Bytes(u8),
+    Buffer,
     Used,
 }
 
@@ -62,8 +63,9 @@ fn either(s: &[u8], a: &[u8], b: &[u8]) -> bool
     same(s, b)
 }
 
-fn is_lent(s: &[u8]) -> bool
-    ensures { λ r. ⌜ r ≡ isLent (now (s .entry)) ⌝ }
+// Bytes in so many digits at most, or none.
+fn is_lent(s: &[u8], digits: usize) -> bool
+    ensures { λ r. ⌜ r ≡ isLent digits (now (s .entry)) ⌝ }
 {
     if same(s, b"-") {
         return true;
@@ -71,7 +73,7 @@ fn is_lent(s: &[u8]) -> bool
     if s.len() < 1 {
         return false;
     }
-    if s.len() > 2048 {
+    if s.len() > digits {
         return false;
     }
     hex::is_hex(s, Case::Lower)
@@ -111,14 +113,21 @@ fn asked_flaw(line: &[u8]) -> Flaw
 fn bytes_flaw(line: &[u8], k: usize, number: u8) -> Flaw
     ensures { λ r. ⌜ r ≡ bytesFlaw k number (now (line .entry)) ⌝ }
 {
-    check(is_lent(field(line, TAB, k)), Fault::Bytes(number))
+    check(is_lent(field(line, TAB, k), 2048), Fault::Bytes(number))
+}
+
+// A buffer may be longer than what else is lent: a text may stand in it.
+fn buffer_flaw(line: &[u8]) -> Flaw
+    ensures { λ r. ⌜ r ≡ bufferFlaw (now (line .entry)) ⌝ }
+{
+    check(is_lent(field(line, TAB, 8), 8192), Fault::Buffer)
 }
 
 // Fields 7 to 10: what is lent.
 fn lent_flaw(line: &[u8]) -> Flaw
     ensures { λ r. ⌜ r ≡ lentFlaw (now (line .entry)) ⌝ }
 {
-    let last = bytes_flaw(line, 8, 9).or(bytes_flaw(line, 9, 10));
+    let last = buffer_flaw(line).or(bytes_flaw(line, 9, 10));
     bytes_flaw(line, 6, 7).or(bytes_flaw(line, 7, 8).or(last))
 }
 

@@ -1,7 +1,7 @@
 // What is told of each kind of answer. A call that is lent no log has none of its bytes used: 0.
 ghost use mathlib.Core.Path.{_≡_};
 ghost use lib.IntN.{pos};
-ghost use Rattle.params.specs.Answers.{tellsDone, usedDone, tellsPayload, usedPayload, tellsStatus, usedStatus, tellsIrq, usedIrq, tellsModulation, tellsPacket, tellsLink, tellsAirtime, flagValue};
+ghost use Rattle.params.specs.Answers.{tellsDone, usedDone, tellsPayload, usedPayload, tellsStatus, usedStatus, tellsIrq, usedIrq, tellsModulation, tellsPacket, tellsLink, tellsAirtime, tellsWriteHex, tellsReadHex, flagValue};
 ghost use Rattle.results.specs.Word.{word};
 ghost use Rattle.results.specs.Results.{Tells};
 use crate::put_five;
@@ -20,7 +20,9 @@ use params::answers::LinkAnswer;
 use params::answers::ModulationAnswer;
 use params::answers::PacketAnswer;
 use params::answers::PayloadAnswer;
+use params::answers::ReadHexAnswer;
 use params::answers::StatusAnswer;
+use params::answers::WriteHexAnswer;
 
 pub fn done(results: &mut [u64], answer: Answer) -> u8
     ensures { λ r. ⌜ Tells (tellsDone answer) (usedDone answer) (now (results .entry)) (pos r) (now (results .exit)) ⌝ }
@@ -170,5 +172,31 @@ pub fn airtime(results: &mut [u64], answer: AirtimeAnswer, totals: &[u64; 10]) -
             put_one(results, 0, line);
             f.error().number()
         }
+    }
+}
+
+pub fn write_hex(results: &mut [u64], answer: WriteHexAnswer) -> u8
+    ensures { λ r. ⌜ Tells (tellsWriteHex answer) 0 (now (results .entry)) (pos r) (now (results .exit)) ⌝ }
+{
+    match answer {
+        WriteHexAnswer::Written(size) => {
+            put_one(results, 0, size as u64);
+            0
+        }
+        WriteHexAnswer::Refused(e) => refused(results, 0, e),
+    }
+}
+
+// Which record is bad is not told.
+pub fn read_hex(results: &mut [u64], answer: ReadHexAnswer) -> u8
+    ensures { λ r. ⌜ Tells (tellsReadHex answer) 0 (now (results .entry)) (pos r) (now (results .exit)) ⌝ }
+{
+    match answer {
+        ReadHexAnswer::Read => {
+            put(results, 0, 0);
+            0
+        }
+        ReadHexAnswer::Bad(f, _) => refused(results, 0, f.error()),
+        ReadHexAnswer::Refused(e) => refused(results, 0, e),
     }
 }

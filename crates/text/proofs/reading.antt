@@ -1,3 +1,4 @@
 pub mod Tests
 pub mod Parted
 pub mod Alike
+pub mod Parts

@@ -1,4 +1,4 @@
--- The fields of a line, parted by a byte.
+-- The fields of a line, parted by a byte, and a text's parts.
 use mathlib.Core.List.{List, [], _∷_}
 use mathlib.Core.Bool.{cond}
 use Prim.Native.Nat.{ℕ, zero, suc}
@@ -15,3 +15,13 @@ countOf b (x ∷ s) = cond (eqb x b) (suc (countOf b s)) (countOf b s)
 abbrev pub fieldAt : ℕ → ℕ → List ℕ → List ℕ
 fieldAt sep zero s = take (indexOf sep s) s
 fieldAt sep (suc k) s = fieldAt sep k (drop (suc (indexOf sep s)) s)
+
+-- parts: what stands before a byte, between two of it, and after the last, so one more than there are such bytes
+
+abbrev pub longer : ℕ → List (List ℕ) → List (List ℕ)
+longer b [] = (b ∷ []) ∷ []
+longer b (p ∷ ps) = (b ∷ p) ∷ ps
+
+abbrev pub parts : ℕ → List ℕ → List (List ℕ)
+parts sep [] = [] ∷ []
+parts sep (b ∷ s) = cond (eqb b sep) ([] ∷ parts sep s) (longer b (parts sep s))

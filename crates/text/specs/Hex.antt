@@ -27,6 +27,13 @@ isNibble a b = isDigit b || isLetter a b
 abbrev pub nibble : ℕ → ℕ → ℕ
 nibble a b = cond (isDigit b) (b - 48) (cond (isLetter a b) (b - a + 10) 0)
 
+-- a digit of either letter case, and what it is worth
+abbrev pub anyDigit : ℕ → Bool
+anyDigit b = isNibble 65 b || isNibble 97 b
+
+abbrev pub worth : ℕ → ℕ
+worth b = cond (isNibble 65 b) (nibble 65 b) (nibble 97 b)
+
 -- whole bytes, of digits alone
 unfoldable pub hexDigits : ℕ → List ℕ → Bool
 hexDigits a s = eqb (length s % 2) 0 && all (isNibble a) s

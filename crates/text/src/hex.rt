@@ -3,7 +3,7 @@ ghost use mathlib.Core.Path.{_≡_};
 ghost use mathlib.Core.List.{_++_};
 ghost use Prim.Native.Nat.{_/_, _≤_};
 ghost use lib.ListN.{length, drop};
-ghost use Rattle.text.specs.Hex.{ten as tenOf, isLetter, isNibble, nibble as nibbleOf, hexDigits, bytesOf, bytesRead, bytesLeft};
+ghost use Rattle.text.specs.Hex.{ten as tenOf, isLetter, isNibble, nibble as nibbleOf, anyDigit, worth as worthOf, hexDigits, bytesOf, bytesRead, bytesLeft};
 use crate::read_decimals::is_digit;
 
 // Which letters stand for the digits from ten on.
@@ -59,6 +59,26 @@ pub fn nibble(b: u8, a: u8) -> u8
         return b - a + 10;
     }
     0
+}
+
+// A digit of either letter case.
+pub fn is_any_digit(b: u8) -> bool
+    ensures { λ r. ⌜ r ≡ anyDigit b ⌝ }
+{
+    if is_nibble(b, b'A') {
+        return true;
+    }
+    is_nibble(b, b'a')
+}
+
+// What it is worth, 0 where it is none.
+pub fn worth(b: u8) -> u8
+    ensures { λ r. ⌜ (r ≡ worthOf b) × (r ≤ 15) ⌝ }
+{
+    if is_nibble(b, b'A') {
+        return nibble(b, b'A');
+    }
+    nibble(b, b'a')
 }
 
 fn hex_digits(s: &[u8], a: u8) -> bool

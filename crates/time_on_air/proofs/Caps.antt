@@ -13,7 +13,7 @@ use Rattle.time_on_air.specs.declared.packet.Packet.{Packet}
 use Rattle.time_on_air.specs.declared.packet.Judged.the-variants.{Fine}
 use Rattle.time_on_air.specs.Packet.{sheetFault, flagFault, codeFault, packetFault, Counts}
 use Rattle.time_on_air.specs.Lines.{packetOf}
-use Rattle.time_on_air.proofs.Parts.{decided}
+use Rattle.text.proofs.reading.Tests.{decided}
 use Rattle.time_on_air.proofs.packet.Accepted.{accepted}
 
 abbrev pub cap : ℕ → ℕ

@@ -1,4 +1,4 @@
-pub mod Parts
+pub mod Tests
 pub mod Onward
 pub mod Caps
 pub mod Numbers

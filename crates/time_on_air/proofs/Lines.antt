@@ -13,9 +13,11 @@ use Rattle.params.specs.declared.line_faults.LineFault.the-variants.{Form}
 use Rattle.time_on_air.specs.declared.packet.Judged.{Judged}
 use Rattle.time_on_air.specs.declared.packet.Judged.the-variants.{Fine, Wrong}
 use Rattle.time_on_air.specs.Packet.{packetFault}
-use Rattle.time_on_air.specs.Lines.{tab, parts, isNumber, numbers, formFault, packetOf, packetIn, otherwise, lineFault}
+use Rattle.text.specs.Fields.{parts}
+use Rattle.time_on_air.specs.Lines.{tab, isNumber, numbers, formFault, packetOf, packetIn, otherwise, lineFault}
 use Rattle.time_on_air.specs.Onward.{Said, says, wrong, heldFrom, fieldsFrom, lineFrom, saidFault, saidNumbers}
-use Rattle.time_on_air.proofs.Parts.{decided, some}
+use Rattle.text.proofs.reading.Parts.{some}
+use Rattle.text.proofs.reading.Tests.{decided}
 use Rattle.time_on_air.proofs.Caps.{caps, same-fault, same-packet}
 use Rattle.time_on_air.proofs.Numbers.{number}
 

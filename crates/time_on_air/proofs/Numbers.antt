@@ -13,7 +13,8 @@ use Rattle.text.specs.Words.{all}
 use Rattle.text.specs.Decimal.{isDigit, digits, valueFrom}
 use Rattle.time_on_air.specs.Lines.{isNumber}
 use Rattle.time_on_air.specs.Onward.{more, heldFrom}
-use Rattle.time_on_air.proofs.Parts.{decided, and-false, and-true}
+use Rattle.text.proofs.reading.Tests.{decided}
+use Rattle.time_on_air.proofs.Tests.{and-false, and-true}
 use Rattle.time_on_air.proofs.Caps.{cap}
 use Rattle.time_on_air.proofs.fields.Digit.{both}
 

@@ -13,11 +13,13 @@ use Rattle.params.specs.declared.line_faults.LineFault.the-variants.{Form}
 use Rattle.time_on_air.specs.declared.fields.Ended.{Ended}
 use Rattle.time_on_air.specs.declared.fields.Ended.the-variants.{Field, Line, Wrong, WrongLine}
 use Rattle.time_on_air.specs.Packet.{packetFault}
-use Rattle.time_on_air.specs.Lines.{tab, lf, parts, packetOf}
+use Rattle.text.specs.Fields.{parts}
+use Rattle.time_on_air.specs.Lines.{tab, lf, packetOf}
 use Rattle.time_on_air.specs.Report.{mostLines}
 use Rattle.time_on_air.specs.Onward.{Outcome, late, badLine, more, goesOn, wrong, fieldsFrom, lineFrom, saidFault, saidNumbers, added, begun, orBad, onward}
 use Rattle.time_on_air.specs.Fields.{taken, after, wrongAt, tabEnds, lfEnds, endedBy}
-use Rattle.time_on_air.proofs.Parts.{decided, some}
+use Rattle.text.proofs.reading.Parts.{some}
+use Rattle.text.proofs.reading.Tests.{decided}
 use Rattle.time_on_air.proofs.fields.Digit.{digit-from}
 
 -- ---- a line that has begun

@@ -16,10 +16,12 @@ use Rattle.time_on_air.specs.declared.packet.Judged.{Judged}
 use Rattle.time_on_air.specs.declared.packet.Judged.the-variants.{Fine, Wrong}
 use Rattle.time_on_air.specs.Packet.{packetFault, Counts}
 use Rattle.time_on_air.specs.Symbols.{quarterChips}
-use Rattle.time_on_air.specs.Lines.{tab, lf, parts, formFault, packetIn, otherwise, lineFault}
+use Rattle.text.specs.Fields.{parts}
+use Rattle.time_on_air.specs.Lines.{tab, lf, formFault, packetIn, otherwise, lineFault}
 use Rattle.time_on_air.specs.Report.{mostLines, firstBad, share, sum, microseconds, each, verdict, totals}
 use Rattle.time_on_air.specs.Onward.{outcomeOf, sent, bad, lineFrom, saidNumbers, mostSum, grown, added, rounded, onward}
-use Rattle.time_on_air.proofs.Parts.{decided, some}
+use Rattle.text.proofs.reading.Parts.{some}
+use Rattle.text.proofs.reading.Tests.{decided}
 use Rattle.time_on_air.proofs.Lines.{judges}
 use Rattle.time_on_air.proofs.packet.Accepted.{accepted}
 use Rattle.time_on_air.proofs.symbols.Bounds.{chips-bound}

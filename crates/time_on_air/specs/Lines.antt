@@ -4,6 +4,7 @@ use mathlib.Core.List.{List, [], _∷_}
 use Prim.Native.Nat.{ℕ, zero, suc}
 use lib.Dec.{eqb}
 use lib.ListN.{length, getD}
+use Rattle.text.specs.Fields.{parts}
 use Rattle.text.specs.Decimal.{digits, valueFrom}
 use Rattle.params.specs.declared.line_faults.LineFault.the-variants.{Form}
 use Rattle.time_on_air.specs.declared.packet.Packet.{Packet}
@@ -16,16 +17,6 @@ tab = 9
 
 abbrev pub lf : ℕ
 lf = 10
-
--- ---- parts: what stands before a byte, between two of it, and after the last, so one more than there are such bytes
-
-abbrev pub longer : ℕ → List (List ℕ) → List (List ℕ)
-longer b [] = (b ∷ []) ∷ []
-longer b (p ∷ ps) = (b ∷ p) ∷ ps
-
-abbrev pub parts : ℕ → List ℕ → List (List ℕ)
-parts sep [] = [] ∷ []
-parts sep (b ∷ s) = cond (eqb b sep) ([] ∷ parts sep s) (longer b (parts sep s))
 
 -- ---- numbers: digits alone, at least one, and a 0 stands by itself
 

@@ -20,7 +20,8 @@ use Rattle.time_on_air.specs.declared.turns.Turn.{Turn}
 use Rattle.time_on_air.specs.declared.turns.Turn.the-variants.{On, Bad}
 use Rattle.time_on_air.specs.Packet.{packetFault}
 use Rattle.time_on_air.specs.Symbols.{quarterChips}
-use Rattle.time_on_air.specs.Lines.{tab, lf, parts, packetOf}
+use Rattle.text.specs.Fields.{parts}
+use Rattle.time_on_air.specs.Lines.{tab, lf, packetOf}
 use Rattle.time_on_air.specs.Report.{mostLines, microseconds, each, verdict, totals}
 
 -- ---- an outcome: ten totals, or a fault and the line's number

@@ -15,7 +15,8 @@ use Rattle.time_on_air.specs.declared.packet.Judged.{Judged}
 use Rattle.time_on_air.specs.declared.packet.Judged.the-variants.{Fine, Wrong}
 use Rattle.time_on_air.specs.Packet.{unless}
 use Rattle.time_on_air.specs.Symbols.{ceil, quarterChips}
-use Rattle.time_on_air.specs.Lines.{lf, parts, packetIn, lineFault}
+use Rattle.text.specs.Fields.{parts}
+use Rattle.time_on_air.specs.Lines.{lf, packetIn, lineFault}
 
 -- ---- bad lines, counted from 1. The last part of a text is no line: it is what stands behind the last LF
 

@@ -1,10 +1,12 @@
 //! How long calls take: the Rust over its mock and the static library, on the same inputs, in turns.
 //!
-//! Both keep registers, FIFO and log from call to call and start each call with an empty log. The reader and a depot's
-//! airtime have no Rust side: the oracle's own stand there. Its reader programs its guess once by the Rust over the mock.
+//! Both keep registers, FIFO and log from call to call and start each call with an empty log. The reader, a depot's airtime
+//! and Intel HEX have no Rust side: the oracle's own stand there. Its reader programs its guess once by the Rust over the
+//! mock.
 use oracle::airtime::airtime;
 use oracle::chip::{Chip, FIFO, IMAGE};
 use oracle::driver::{self, Question};
+use oracle::intel_hex;
 use oracle::linked;
 use oracle::maker::{Image, Maker};
 use oracle::reader::read_link;
@@ -48,6 +50,12 @@ impl Input {
             }
             Operation::Airtime => {
                 let _ = black_box(airtime(&self.buffer));
+            }
+            Operation::WriteHex => {
+                let _ = black_box(intel_hex::write(&self.chip.get_mut().image, &mut self.buffer));
+            }
+            Operation::ReadHex => {
+                let _ = black_box(intel_hex::read(&self.buffer));
             }
             _ => self.asked(),
         }
@@ -122,6 +130,8 @@ fn main() {
         let name = match operation {
             Operation::ReadLink => "read_link (the oracle's reader)",
             Operation::Airtime => "airtime (the oracle's sums)",
+            Operation::WriteHex => "write_hex (the oracle's text)",
+            Operation::ReadHex => "read_hex (the oracle's lines)",
             _ => operation.name(),
         };
         let calls = inputs(&mut maker, operation, None);

@@ -134,4 +134,6 @@ calls! {
     );
     sx127x_read_link as read_link(image: shared; board: u8;);
     sx127x_airtime as airtime(text: shared;;);
+    sx127x_write_hex as write_hex(image: shared, text: lent;;);
+    sx127x_read_hex as read_hex(text: shared, image: lent;;);
 }

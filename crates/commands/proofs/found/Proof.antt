@@ -16,10 +16,10 @@ use Rattle.commands.proofs.found.Statement.{statement}
 use Rattle.commands.proofs.found.Tie as tie
 
 abbrev Inv-loop : tie.InvT-loop
-Inv-loop w words k₀ k = (k ≤ 23) × (foundFrom w words k (drop k operations) ≡ foundFrom w words 0 operations)
+Inv-loop w words k₀ k = (k ≤ 25) × (foundFrom w words k (drop k operations) ≡ foundFrom w words 0 operations)
 
 abbrev μ-loop : tie.MeasureT-loop
-μ-loop w words k₀ k = 23 - k
+μ-loop w words k₀ k = 25 - k
 
 -- the word that is tried at k is the list's word k
 tried : (c : tie.After-same Inv-loop μ-loop)

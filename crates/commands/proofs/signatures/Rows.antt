@@ -8,7 +8,7 @@ use lib.Dec.{T, eqb, lit≤}
 use lib.ListN.{length, getD}
 use Rattle.sheets.proofs.Sweep.{every, equal}
 use Rattle.commands.specs.declared.Operation.{Operation}
-use Rattle.commands.specs.declared.Operation.the-variants.{InitLora, CreateModulationParams, CreatePacketParams, Reset, SetStandby, SetSleep, SetTxRxBufferBaseAddress, SetTxPowerAndRampTime, SetModulationParams, SetPacketParams, SetChannel, SetPayload, DoTx, DoRx, GetRxPayload, GetRxPacketStatus, DoCad, SetIrqParams, ProcessIrqEvent, SetTxContinuousWaveMode, Program, ReadLink, Airtime}
+use Rattle.commands.specs.declared.Operation.the-variants.{InitLora, CreateModulationParams, CreatePacketParams, Reset, SetStandby, SetSleep, SetTxRxBufferBaseAddress, SetTxPowerAndRampTime, SetModulationParams, SetPacketParams, SetChannel, SetPayload, DoTx, DoRx, GetRxPayload, GetRxPacketStatus, DoCad, SetIrqParams, ProcessIrqEvent, SetTxContinuousWaveMode, Program, ReadLink, Airtime, WriteHex, ReadHex}
 use Rattle.commands.specs.Operations.{kinds}
 use Rattle.commands.specs.Rows.{row}
 
@@ -62,6 +62,8 @@ rows SetTxContinuousWaveMode = record { within = lit≤ tt; count = refl; few = 
 rows Program = record { within = lit≤ tt; count = refl; few = lit≤ tt; largest = λ d. tt }
 rows ReadLink = record { within = lit≤ tt; count = refl; few = lit≤ tt; largest = λ d. tt }
 rows Airtime = record { within = lit≤ tt; count = refl; few = lit≤ tt; largest = λ d. tt }
+rows WriteHex = record { within = lit≤ tt; count = refl; few = lit≤ tt; largest = λ d. tt }
+rows ReadHex = record { within = lit≤ tt; count = refl; few = lit≤ tt; largest = λ d. tt }
 
 pub at-place : (d : List ℕ) (o : Operation) (i : ℕ) → i < 10 → getD (getD most (row o) d) i 0 ≡ getD (kinds o) i 0
 at-place d o i h = equal 0 10 (λ k. getD (getD most (row o) d) k 0) (λ k. getD (kinds o) k 0) (rows o .largest d) i (omega arith) (omega arith)

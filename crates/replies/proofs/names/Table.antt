@@ -7,7 +7,7 @@ use lib.Dec.{lit≤}
 use lib.ListN.{length}
 use Rattle.bytes.specs.Bytes.{indexOf, indexAfter}
 use Rattle.params.specs.declared.mod_params.RadioError.{RadioError}
-use Rattle.params.specs.declared.mod_params.RadioError.the-variants.{SPI, Reset, RfSwitchRx, RfSwitchTx, Busy, Irq, DIO1, InvalidConfiguration, InvalidRadioMode, OpError, InvalidBaseAddress, PayloadSizeUnexpected, PayloadSizeMismatch, UnavailableSpreadingFactor, UnavailableBandwidth, InvalidBandwidthForFrequency, InvalidSF6ExplicitHeaderRequest, InvalidOutputPowerForFrequency, TransmitTimeout, ReceiveTimeout, DutyCycleUnsupported, RngUnsupported, FrequencyOutOfRange, LogFull, CarrierUnsupported, BadImage, NotALink, BadLine}
+use Rattle.params.specs.declared.mod_params.RadioError.the-variants.{SPI, Reset, RfSwitchRx, RfSwitchTx, Busy, Irq, DIO1, InvalidConfiguration, InvalidRadioMode, OpError, InvalidBaseAddress, PayloadSizeUnexpected, PayloadSizeMismatch, UnavailableSpreadingFactor, UnavailableBandwidth, InvalidBandwidthForFrequency, InvalidSF6ExplicitHeaderRequest, InvalidOutputPowerForFrequency, TransmitTimeout, ReceiveTimeout, DutyCycleUnsupported, RngUnsupported, FrequencyOutOfRange, LogFull, CarrierUnsupported, BadImage, NotALink, BadLine, BadHex, BadSum, WrongPlace, Incomplete, TextFull}
 use Rattle.params.specs.Errors.{numberOf}
 use Rattle.text.specs.Fields.{fieldAt}
 use Rattle.text.specs.Words.{ascii}
@@ -16,7 +16,7 @@ use Rattle.replies.specs.Names.{nameOf}
 abbrev pub table : List ℕ
 table =
     ascii
-    " SPI Reset RfSwitchRx RfSwitchTx Busy Irq DIO1 InvalidConfiguration InvalidRadioMode OpError InvalidBaseAddress PayloadSizeUnexpected PayloadSizeMismatch UnavailableSpreadingFactor UnavailableBandwidth InvalidBandwidthForFrequency InvalidSF6ExplicitHeaderRequest InvalidOutputPowerForFrequency TransmitTimeout ReceiveTimeout DutyCycleUnsupported RngUnsupported FrequencyOutOfRange LogFull CarrierUnsupported BadImage NotALink BadLine"
+    " SPI Reset RfSwitchRx RfSwitchTx Busy Irq DIO1 InvalidConfiguration InvalidRadioMode OpError InvalidBaseAddress PayloadSizeUnexpected PayloadSizeMismatch UnavailableSpreadingFactor UnavailableBandwidth InvalidBandwidthForFrequency InvalidSF6ExplicitHeaderRequest InvalidOutputPowerForFrequency TransmitTimeout ReceiveTimeout DutyCycleUnsupported RngUnsupported FrequencyOutOfRange LogFull CarrierUnsupported BadImage NotALink BadLine BadHex BadSum WrongPlace Incomplete         TextFull"
 
 pub at-number : (e : RadioError) → fieldAt 32 (numberOf e) table ≡ nameOf e
 unfolding indexOf indexAfter
@@ -48,6 +48,11 @@ at-number CarrierUnsupported = refl
 at-number BadImage = refl
 at-number NotALink = refl
 at-number BadLine = refl
+at-number BadHex = refl
+at-number BadSum = refl
+at-number WrongPlace = refl
+at-number Incomplete = refl
+at-number TextFull = refl
 
 pub short : (e : RadioError) → length (nameOf e) ≤ 31
 short SPI = lit≤ tt
@@ -78,3 +83,8 @@ short CarrierUnsupported = lit≤ tt
 short BadImage = lit≤ tt
 short NotALink = lit≤ tt
 short BadLine = lit≤ tt
+short BadHex = lit≤ tt
+short BadSum = lit≤ tt
+short WrongPlace = lit≤ tt
+short Incomplete = lit≤ tt
+short TextFull = lit≤ tt

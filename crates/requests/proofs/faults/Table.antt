@@ -7,7 +7,7 @@ use lib.ListN.{length}
 use Rattle.bytes.specs.Bytes.{indexOf, indexAfter}
 use Rattle.text.specs.Fields.{fieldAt}
 use Rattle.commands.specs.declared.Operation.{Operation}
-use Rattle.commands.specs.declared.Operation.the-variants.{InitLora, CreateModulationParams, CreatePacketParams, Reset, SetStandby, SetSleep, SetTxRxBufferBaseAddress, SetTxPowerAndRampTime, SetModulationParams, SetPacketParams, SetChannel, SetPayload, DoTx, DoRx, GetRxPayload, GetRxPacketStatus, DoCad, SetIrqParams, ProcessIrqEvent, SetTxContinuousWaveMode, Program, ReadLink, Airtime}
+use Rattle.commands.specs.declared.Operation.the-variants.{InitLora, CreateModulationParams, CreatePacketParams, Reset, SetStandby, SetSleep, SetTxRxBufferBaseAddress, SetTxPowerAndRampTime, SetModulationParams, SetPacketParams, SetChannel, SetPayload, DoTx, DoRx, GetRxPayload, GetRxPacketStatus, DoCad, SetIrqParams, ProcessIrqEvent, SetTxContinuousWaveMode, Program, ReadLink, Airtime, WriteHex, ReadHex}
 use Rattle.commands.specs.Operations.{arguments}
 use Rattle.commands.specs.Rows.{row}
 use Rattle.requests.specs.Faults.{table}
@@ -37,6 +37,8 @@ at-row SetTxContinuousWaveMode = refl
 at-row Program = refl
 at-row ReadLink = refl
 at-row Airtime = refl
+at-row WriteHex = refl
+at-row ReadHex = refl
 
 pub short : (o : Operation) → length (arguments o) ≤ 60
 short InitLora = lit≤ tt
@@ -62,3 +64,5 @@ short SetTxContinuousWaveMode = lit≤ tt
 short Program = lit≤ tt
 short ReadLink = lit≤ tt
 short Airtime = lit≤ tt
+short WriteHex = lit≤ tt
+short ReadHex = lit≤ tt

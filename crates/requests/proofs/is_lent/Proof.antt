@@ -16,7 +16,8 @@ returns-2 c = rw (← c .before .before .same .ensures, c .before .if1 .left, lt
 
 returns-3 : tie.Need-returns-3
 returns-3 c =
-    let t : 2048 < length (now (c .before .before .before .before .before .before .args .s)) = c .if3 .taken in
+    let a = c .before .before .before .before .before .before .args in
+    let t : a .digits < length (now (a .s)) = c .if3 .taken in
     rw (← c .before .before .before .same .ensures, c .before .before .if1 .left, le-leb _ _ (c .before .if2 .left), lt-leb _ _ t)
 
 returns-4 : tie.Need-returns-4

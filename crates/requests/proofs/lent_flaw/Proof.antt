@@ -8,7 +8,7 @@ use Rattle.requests.proofs.lent_flaw.Tie as tie
 returns : tie.Need-returns
 unfolding lentFlaw
 returns c =
-    rw (c .or3 .ensures, c .before .before .before .bytes-flaw3 .ensures, c .before .or2 .ensures, c .before .before .bytes-flaw4 .ensures, c .before .before .before .before .or .ensures, c .before .before .before .before .before .before .bytes-flaw .ensures, c .before .before .before .before .before .bytes-flaw2 .ensures)
+    rw (c .or3 .ensures, c .before .before .before .bytes-flaw2 .ensures, c .before .or2 .ensures, c .before .before .bytes-flaw3 .ensures, c .before .before .before .before .or .ensures, c .before .before .before .before .before .before .buffer-flaw .ensures, c .before .before .before .before .before .bytes-flaw .ensures)
 
 pub lent-flaw-spec : {M : Type 1} → statement M
 lent-flaw-spec =

@@ -1,14 +1,14 @@
--- How fields follow one another: what `count`, `start` and `field` cite.
+-- How fields follow one another, and parts of a text: what `count`, `start`, `field` and others cite.
 -- Assumes nothing.
 use mathlib.Core.Path.{_≡_, refl}
-use mathlib.Core.List.{List}
+use mathlib.Core.List.{List, _++_, append-nil}
 use Prim.Native.Nat.{ℕ, zero, suc, _+_, _-_, _≤_, _<_, min}
 use native.Mathlib.Numerals.{add-one}
 use native.Mathlib.Omega.{arith}
 use borrow.Author.Tests.{eq-eqb, ne-eqb, leb-true, leb-false}
 use mathlib.Core.Bool.{Bool, true, false}
 use lib.Dec.{leb}
-use lib.ListN.{length, take, drop, getD, drop-of-length-le, length-drop}
+use lib.ListN.{length, take, drop, getD, drop-of-length-le, length-take, length-drop}
 use lib.Seq.{drop-cons, drop-drop, take-length, take-all}
 use Rattle.bytes.specs.Bytes.{indexOf, slice}
 use Rattle.text.specs.Fields.{countOf, fieldAt}
@@ -53,3 +53,12 @@ to-end sep s from e p =
 -- a part `&s[a..]` is what is left of s from a on
 pub from-on : (s : List ℕ) (a : ℕ) → take (length s - a) (drop a s) ≡ drop a s
 from-on s a = take-all (length s - a) (drop a s) (rw length-drop (omega arith))
+
+-- a field is no longer than the text that it stands in
+pub within : (sep k : ℕ) (s : List ℕ) → length (fieldAt sep k s) ≤ length s
+within sep zero s = rw length-take (omega arith)
+within sep (suc k) s = omega (arith, within sep k (drop (suc (indexOf sep s)) s), length-drop (suc (indexOf sep s)) s)
+
+-- a copy of as many bytes as there are
+pub copied : (bytes old : List ℕ) → length old ≤ length bytes → take (length bytes) bytes ++ drop (length bytes) old ≡ bytes
+copied bytes old h = rw (take-length bytes, drop-of-length-le old {i = length bytes} h) (append-nil bytes)

@@ -1,6 +1,7 @@
--- Tests that are made together, a test of each element of a text, as a loop makes it, and what stands past a text's end.
+-- A test is true or false; tests that are made together, a test of each element of a text, as a loop makes it, and what stands past a text's end.
 -- Assumes nothing.
 use mathlib.Core.Path.{_≡_, refl, sym}
+use mathlib.Core.Logic.{_⊎_, inl, inr}
 use mathlib.Core.List.{List, [], _∷_}
 use mathlib.Core.Bool.{Bool, true, false, _&&_, true≢false}
 use Prim.Native.Nat.{ℕ, zero, suc, _+_, _≤_, _<_}
@@ -9,6 +10,10 @@ use native.Mathlib.Omega.{arith}
 use lib.ListN.{length, drop, getD}
 use lib.Seq.{drop-cons}
 use Rattle.text.specs.Words.{all}
+
+pub decided : (t : Bool) → (t ≡ true) ⊎ (t ≡ false)
+decided true = inl refl
+decided false = inr refl
 
 -- two tests that were made together
 pub and-true : (p q : Bool) → (p && q) ≡ true → (p ≡ true) × (q ≡ true)

@@ -11,7 +11,7 @@ use lib.Dec.{eqb, leb}
 use lib.ListN.{length, drop, getD, drop-of-length-le}
 use lib.Seq.{drop-cons}
 use Rattle.text.specs.Decimal.{isDigit}
-use Rattle.time_on_air.proofs.Parts.{and-false}
+use Rattle.time_on_air.proofs.Tests.{and-false}
 use Rattle.time_on_air.specs.Onward.{more, goesOn}
 use Rattle.time_on_air.specs.Fields.{taken, after, Stopped}
 

@@ -11,7 +11,7 @@ use Rattle.time_on_air.specs.declared.fields.Ended.{Ended}
 use Rattle.time_on_air.specs.declared.fields.Ended.the-variants.{Wrong, WrongLine}
 use Rattle.time_on_air.specs.Lines.{tab, lf}
 use Rattle.time_on_air.specs.Fields.{tabEnds, lfEnds, endedBy, Right}
-use Rattle.time_on_air.proofs.Parts.{decided}
+use Rattle.text.proofs.reading.Tests.{decided}
 
 -- a wrong field or line tells nothing
 either : (t : Bool) (k j held : ℕ) → Right (cond t (WrongLine k) (Wrong k)) j held

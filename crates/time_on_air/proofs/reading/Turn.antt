@@ -8,7 +8,8 @@ use Prim.Native.Nat.{ℕ, _+_, _≤_, _<_}
 use native.Mathlib.Numerals.{add-one}
 use lib.ListN.{length, drop, getD, drop-of-length-le}
 use lib.Seq.{drop-cons}
-use Rattle.time_on_air.specs.Lines.{lf, parts}
+use Rattle.text.specs.Fields.{parts}
+use Rattle.time_on_air.specs.Lines.{lf}
 use Rattle.time_on_air.specs.Onward.{Outcome, onward}
 use Rattle.time_on_air.specs.Fields.{Stopped}
 use Rattle.time_on_air.proofs.Onward.{run}

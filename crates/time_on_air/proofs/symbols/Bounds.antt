@@ -10,7 +10,7 @@ use mathlib.Core.Path.{_≡_, refl}
 use mathlib.Core.Logic.{⊎-elim}
 use lib.IntN.{ℤ, pos, negsuc, negℤ, subℕ}
 use lib.Pow.{pow-mono}
-use Rattle.time_on_air.proofs.Parts.{decided}
+use Rattle.text.proofs.reading.Tests.{decided}
 use Rattle.sheets.specs.Modem.{optimize}
 use Rattle.sheets.proofs.Modem.{optimize-le}
 use Rattle.time_on_air.specs.declared.packet.Packet.{Packet}

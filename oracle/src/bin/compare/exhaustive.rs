@@ -37,6 +37,7 @@ impl Exhaustive<'_> {
         self.reader();
         self.the_rusts_images();
         self.depots();
+        self.images();
     }
 
     pub fn offer(&mut self) {

@@ -1,6 +1,7 @@
 //! The comparison at scale: generated calls, each run on the oracle and on the library, and what differed.
 mod depots;
 mod exhaustive;
+mod images;
 mod report;
 
 use exhaustive::Exhaustive;

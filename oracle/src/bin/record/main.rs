@@ -1,5 +1,6 @@
 //! Writes the recorded list: `stdin`, the calls, and `stdout`, the oracle's outcomes, into the folder that is named.
 mod depots;
+mod images;
 mod list;
 mod no_calls;
 mod sections;
@@ -34,6 +35,8 @@ fn list() -> Vec<Vec<u8>> {
         sections::any,
         no_calls::all,
         sections::six,
+        sections::long_buffers,
+        images::all,
     ];
     parts.iter().for_each(|part| part(&mut list));
     // The last line has no LF, and is a call all the same.

@@ -108,7 +108,17 @@ fn slices(list: &mut List) {
         with(list, field, &"5a".repeat(1_024));
         with(list, field, &"5a".repeat(1_025));
         with(list, field, &"5a".repeat(1_024)[1..]);
+        // The buffer alone may have so many.
+        with(list, field, &"5a".repeat(4_096));
+        with(list, field, &"5a".repeat(4_097));
+        with(list, field, &"5a".repeat(4_096)[1..]);
     }
+    // All at their longest make no line too long.
+    let mut fields = fields("get_rx_payload", "-");
+    for (field, length) in [(7, 1_024), (8, 1_024), (9, 4_096), (10, 1_024)] {
+        fields[field - 1] = "a5".repeat(length);
+    }
+    add(list, &fields);
 }
 
 fn numbers(list: &mut List) {

@@ -3,11 +3,17 @@ use crate::list::{board, pairs, plain, List, VARIANTS};
 use oracle::driver::ask;
 use oracle::maker::{programmed, Image, BASES, FREQUENCIES, PREAMBLES, READER, SYMBOLS};
 use oracle::sheet::{six_of, SIX};
+use oracle::texts::file;
 use oracle::{Board, Operation, Variant};
 
-/// All but `airtime`, which knows no radio and is a part of its own.
+/// All but `airtime` and those of Intel HEX, which look at no board and are parts of their own.
 fn of_a_radio() -> Vec<Operation> {
-    Operation::all().filter(|operation| *operation != Operation::Airtime).collect()
+    Operation::all().filter(|operation| *operation != Operation::Airtime && !operation.is_of_hex()).collect()
+}
+
+/// Those of Intel HEX came later, and have a part at the end, so that the lines before it stay as they are.
+fn but_hex() -> Vec<Operation> {
+    Operation::all().filter(|operation| !operation.is_of_hex()).collect()
 }
 
 pub fn everything(list: &mut List) {
@@ -303,9 +309,25 @@ pub fn six(list: &mut List) {
     }
 }
 
+/// Buffers that are longer than anything else that is lent: payloads, receive buffers, and a depot's file of 256 lines.
+pub fn long_buffers(list: &mut List) {
+    let board = plain(Variant::Sx1276);
+    for (operation, length) in pairs(&[Operation::SetPayload, Operation::GetRxPayload], &[1_025, 4_095, 4_096]) {
+        list.maker.make(board, operation, &[], Image::Random);
+        list.maker.lend_buffer(length);
+        list.add();
+    }
+    let lines = file(&[[1, 7, 7, 1, 8, 9, 0, 1]; 256]);
+    for length in [1_040, 4_095, 4_096] {
+        list.maker.make(board, Operation::Airtime, &[], Image::Zero);
+        list.maker.call.buffer = lines[..length].to_vec();
+        list.add();
+    }
+}
+
 /// What a call is not lent is not looked at and comes back as it was.
 pub fn unlent(list: &mut List) {
-    for (operation, variant) in pairs(&Operation::all().collect::<Vec<_>>(), &VARIANTS) {
+    for (operation, variant) in pairs(&but_hex(), &VARIANTS) {
         let arguments = list.maker.named_arguments(operation);
         list.maker.make(plain(variant), operation, &arguments, Image::Reset);
         if !operation.is_lent_a_fifo() {
@@ -324,7 +346,8 @@ pub fn unlent(list: &mut List) {
 
 pub fn any(list: &mut List) {
     for _ in 0..560 {
-        list.maker.make_any();
+        let operation = list.maker.random.pick(&but_hex());
+        list.maker.make_any_of(operation);
         list.add();
     }
 }

@@ -10,9 +10,10 @@ returns c =
     let six = c .before .before in
     let five = six .before .before .before .before .before in
     let four = five .before .before .before .before in
-    let three = four .before .before .before .before in
+    let error = four .before .before in
+    let three = error .before .before .before in
     let two = three .before .before .before .before .before in
-    then (two .before .before .before .before .put .ensures) (then (two .put-decimal .ensures .0) (then (three .put2 .ensures) (then (four .put-refusal .ensures .0) (then (five .put-words .ensures .0) (six .put3 .ensures)))))
+    rw (← error .error .ensures) (then (two .before .before .before .before .put .ensures) (then (two .put-decimal .ensures .0) (then (three .put2 .ensures) (then (four .put-error .ensures .0) (then (five .put-words .ensures .0) (six .put3 .ensures))))))
 
 pub put-refused-spec : {M : Type 1} → statement M
 put-refused-spec =
@@ -22,6 +23,7 @@ put-refused-spec =
     (λ c κs. search needs)
     (λ c κs. search needs)
     (λ c. search needs)
+    (λ c κs. search needs)
     (λ c κs. search needs)
     (λ c κs. search needs)
     (λ c κs. search needs)

@@ -73,10 +73,18 @@ returns-22 c = rw (c .enum-told22 .given .1)
 returns-23 : tie.Need-returns-23
 returns-23 c = rw (c .enum-told23 .given .1)
 
+returns-24 : tie.Need-returns-24
+returns-24 c = rw (c .enum-told24 .given .1)
+
+returns-25 : tie.Need-returns-25
+returns-25 c = rw (c .enum-told25 .given .1)
+
 pub row-of-spec : {M : Type 1} → statement M
 row-of-spec =
     tie.close
     (tie.spec
+    (λ c. search needs)
+    (λ c. search needs)
     (λ c. search needs)
     (λ c. search needs)
     (λ c. search needs)
@@ -122,4 +130,6 @@ row-of-spec =
     returns-20
     returns-21
     returns-22
-    returns-23)
+    returns-23
+    returns-24
+    returns-25)

@@ -1,7 +1,7 @@
 -- `dump::hex_text::finish` meets its contract: 128 bytes are an image, and nothing else is.
 -- Assumes nothing.
 use borrow.Author.Needs.{needs}
-use Rattle.dump.proofs.Turns.{copied}
+use Rattle.text.proofs.reading.Parted.{copied}
 use denote.Ref.{now}
 use Rattle.dump.proofs.Arms as arms
 use borrow.Author.Tests.{eq-eqb, ne-eqb}

@@ -10,19 +10,19 @@ use Rattle.radiolog_text.specs.CommandWords.{word, otherwise, commandOf}
 use Rattle.radiolog_text.proofs.command_words.command_named.Statement.{statement}
 use Rattle.radiolog_text.proofs.command_words.command_named.Tie as tie
 
-worded : (c : tie.After-found) → c .found .result ≡ among word (now (c .before .before .before .before .before .before .before .args .w)) operations
+worded : (c : tie.After-found) → c .found .result ≡ among word (now (c .before .before .before .before .before .before .args .w)) operations
 unfolding operations indexOf indexAfter
 worded c = c .found .ensures
 
-told : (c : tie.After-found) (n : Named) → c .found .result ≡ n → otherwise n (operationOf (now (c .before .before .before .before .before .before .before .args .w))) ≡ commandOf (now (c .before .before .before .before .before .before .before .args .w))
+told : (c : tie.After-found) (n : Named) → c .found .result ≡ n → otherwise n (operationOf (now (c .before .before .before .before .before .before .args .w))) ≡ commandOf (now (c .before .before .before .before .before .before .args .w))
 unfolding commandOf
 told c n e =
     let i = c .before .before .before in
-    rw (← i .before .same .ensures, i .if1 .left) (ap (λ m. otherwise m (operationOf (now (i .before .before .before .before .args .w)))) (sym e ∙ worded c))
+    rw (← i .before .takes-text .ensures, i .if1 .left) (ap (λ m. otherwise m (operationOf (now (i .before .before .before .args .w)))) (sym e ∙ worded c))
 
 returns : tie.Need-returns
 unfolding commandOf
-returns c = rw (← c .before .same .ensures, c .if1 .taken)
+returns c = rw (← c .before .takes-text .ensures, c .if1 .taken)
 
 returns-2 : tie.Need-returns-2
 returns-2 c = told (c .before .before .before) _ (c .before .o .given .1)
@@ -34,7 +34,6 @@ pub command-named-spec : {M : Type 1} → statement M
 command-named-spec =
     tie.close
     (tie.spec
-    (λ c. search needs)
     (λ c κs. search needs)
     returns
     (λ c κs. search needs)

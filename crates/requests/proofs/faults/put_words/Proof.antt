@@ -54,6 +54,11 @@ returns-8 c =
     let p = c .before .before in
     (rw (p .before .before .before .enum-told5 .given .1) (p .put5 .ensures), within tt (p .put5 .ensures))
 
+returns-9 : tie.Need-returns-9
+returns-9 c =
+    let p = c .before .before in
+    (rw (p .before .before .before .enum-told6 .given .1) (p .put6 .ensures), within tt (p .put6 .ensures))
+
 pub put-words-spec : {M : Type 1} → statement M
 put-words-spec =
     tie.close
@@ -82,6 +87,9 @@ put-words-spec =
     (λ c. search needs)
     (λ c κs. search needs)
     (λ c. search needs)
+    (λ c. search needs)
+    (λ c κs. search needs)
+    (λ c. search needs)
     returns
     (λ c. search needs)
     returns-2
@@ -96,4 +104,6 @@ put-words-spec =
     (λ c. search needs)
     returns-7
     (λ c. search needs)
-    returns-8)
+    returns-8
+    (λ c. search needs)
+    returns-9)

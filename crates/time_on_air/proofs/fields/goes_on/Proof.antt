@@ -6,7 +6,7 @@ use Rattle.time_on_air.specs.Onward.{goesOn}
 -- `time_on_air::fields::goes_on` meets its contract: a digit, but not behind a 0.
 -- Assumes nothing.
 use mathlib.Core.Path.{sym, _∙_}
-use Rattle.time_on_air.proofs.Parts.{and-false, and-true}
+use Rattle.time_on_air.proofs.Tests.{and-false, and-true}
 use borrow.Author.Needs.{needs}
 use Rattle.time_on_air.proofs.fields.goes_on.Statement.{statement}
 use Rattle.time_on_air.proofs.fields.goes_on.Tie as tie

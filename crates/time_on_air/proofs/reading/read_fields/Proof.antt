@@ -5,7 +5,8 @@ use mathlib.Core.List.{List, _++_}
 use Prim.Native.Nat.{ℕ, _+_, _-_, _≤_, _<_}
 use native.Mathlib.Omega.{arith}
 use lib.ListN.{length, drop, drop-of-length-le}
-use Rattle.time_on_air.specs.Lines.{lf, parts}
+use Rattle.text.specs.Fields.{parts}
+use Rattle.time_on_air.specs.Lines.{lf}
 use Rattle.time_on_air.specs.Onward.{from, goesTo, comesTo}
 use Rattle.time_on_air.proofs.reading.Turn.{piece-ends, byte-left}
 use borrow.Author.Needs.{needs}

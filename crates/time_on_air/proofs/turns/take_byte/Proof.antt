@@ -5,7 +5,8 @@ use native.Mathlib.Numerals.{add-one}
 use native.Mathlib.Omega.{arith}
 use denote.Ref.{now}
 use Rattle.time_on_air.specs.declared.fields.Ended.the-variants.{Field, Line, Wrong, WrongLine}
-use Rattle.time_on_air.specs.Lines.{lf, parts}
+use Rattle.text.specs.Fields.{parts}
+use Rattle.time_on_air.specs.Lines.{lf}
 use Rattle.time_on_air.specs.Fields.{endedBy}
 use Rattle.time_on_air.proofs.Onward.{ending}
 use borrow.Author.Needs.{needs}
