@@ -6,7 +6,7 @@ use crate::mod_params::RadioError;
 
 // `Kind` has the record's type, `Sum` the sum that would be right; an address is of the byte that is wrong, or of the first that is
 // not there.
-#[derive(Drop)]
+#[derive(Clone, Copy)]
 pub enum HexFault {
     Open,
     Form,

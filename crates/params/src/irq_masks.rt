@@ -3,7 +3,7 @@ ghost use Rattle.std.specs.Prelude.{◌≡◌};
 ghost use Rattle.sheets.specs.Interrupts.{raised};
 ghost use Rattle.params.specs.Flags.{flag_of, flag_mask};
 
-#[derive(Drop)]
+#[derive(Clone, Copy)]
 pub enum IrqMask {
     CADActivityDetected,
     CADDone,

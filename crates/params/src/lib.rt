@@ -1,4 +1,6 @@
 // Names and numbers: errors, parameters and answers, registers and their values, boards, hertz and synthesizer steps.
+#![tactic(auto)]
+
 pub mod answers;
 pub mod board;
 pub mod hex_faults;

@@ -5,7 +5,7 @@ ghost use Rattle.params.specs.LineFaults.{error_of};
 use crate::mod_params::RadioError;
 
 // A field is counted from 0: `Form` is of one that is missing or no number, and of 8, a ninth one.
-#[derive(Drop)]
+#[derive(Clone, Copy)]
 pub enum LineFault {
     Form(usize),
     Open,

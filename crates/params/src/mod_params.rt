@@ -5,7 +5,7 @@ ghost use Rattle.params.specs.Errors.{number_of, or};
 use crate::units::Hertz;
 
 // In the Rust's order; from FrequencyOutOfRange on they are ours.
-#[derive(Drop)]
+#[derive(Clone, Copy)]
 pub enum RadioError {
     SPI,
     Reset,
@@ -86,7 +86,7 @@ impl RadioError {
 }
 
 // Whether a call goes on.
-#[derive(Drop)]
+#[derive(Clone, Copy)]
 pub enum Verdict {
     Clear,
     Refused(RadioError),
@@ -105,14 +105,14 @@ impl Verdict {
 }
 
 // Listening for a packet: for a number of symbols, on and on, or now and then, which these chips do not support.
-#[derive(Drop)]
+#[derive(Clone, Copy)]
 pub enum RxMode {
     Single(u16),
     Continuous,
     DutyCycle,
 }
 
-#[derive(Drop)]
+#[derive(Clone, Copy)]
 pub enum RadioMode {
     Sleep,
     Standby,
@@ -123,7 +123,7 @@ pub enum RadioMode {
 }
 
 // Codes and flags are numbers here; a call that takes one judges it.
-#[derive(Drop)]
+#[derive(Clone, Copy)]
 pub struct ModulationParams {
     pub spreading_factor: u8,
     pub bandwidth: u8,
@@ -132,7 +132,7 @@ pub struct ModulationParams {
     pub frequency: Hertz,
 }
 
-#[derive(Drop)]
+#[derive(Clone, Copy)]
 pub struct PacketParams {
     pub preamble_length: u16,
     pub implicit_header: u8,
@@ -142,14 +142,14 @@ pub struct PacketParams {
 }
 
 // The signal of a received packet, in dBm and dB.
-#[derive(Drop)]
+#[derive(Clone, Copy)]
 pub struct PacketStatus {
     pub rssi: i16,
     pub snr: i16,
 }
 
 // All that makes a link: what whole programming takes and the reader returns.
-#[derive(Drop)]
+#[derive(Clone, Copy)]
 pub struct Link {
     pub public_network: u8,
     pub spreading_factor: u8,

@@ -2,7 +2,7 @@
 ghost use Rattle.std.specs.Prelude.{◌≡◌, ◌+◌};
 ghost use Rattle.params.specs.Addresses.{address};
 
-#[derive(Drop)]
+#[derive(Clone, Copy)]
 pub enum Register {
     RegFifo,
     RegOpMode,

@@ -3,15 +3,16 @@ ghost use Rattle.std.specs.Prelude.{◌≡◌, ◌^◌, ◌<◌};
 ghost use Rattle.sheets.specs.Frequency.{steps, frf_msb, frf_mid, frf_lsb, frf, read_back, lowest};
 
 // A frequency.
-#[derive(Drop)]
+#[derive(Clone, Copy)]
 pub struct Hertz(pub u32);
 
 // A count of synthesizer steps.
-#[derive(Drop)]
+#[derive(Clone, Copy)]
 pub struct Steps(pub u32);
 
 impl Hertz {
     // The step rule.
+    #[tactic(auto, unfolding(sheets::specs::Frequency::steps))]
     pub fn steps(self) -> Steps
         ensures { result.0 ≡ steps self.0 }
     {
@@ -48,6 +49,7 @@ impl Steps {
     }
 
     // The truncated read-back.
+    #[tactic(auto, unfolding(sheets::specs::Frequency::read_back))]
     pub fn read_back(self) -> Hertz
         requires { self.0 < 2 ^ 24 }
         ensures { result.0 ≡ read_back self.0 }
@@ -57,6 +59,7 @@ impl Steps {
     }
 
     // The lowest frequency that has this count.
+    #[tactic(auto, unfolding(sheets::specs::Frequency::lowest))]
     pub fn lowest(self) -> Hertz
         requires { self.0 < 2 ^ 24 }
         ensures { result.0 ≡ lowest self.0 }

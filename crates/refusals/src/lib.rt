@@ -1,4 +1,6 @@
 // What refuses an argument: codes that name no case, what a radio has not, settings that do not go together.
+#![tactic(auto)]
+
 ghost use Rattle.std.specs.Prelude.{◌≡◌};
 ghost use Rattle.refusals.specs.Refusals.{base_addresses, payload_length, carrier};
 

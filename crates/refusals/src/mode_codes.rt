@@ -5,20 +5,21 @@ ghost use Rattle.refusals.specs.Modes.{mode_of, rx_mode_of};
 use params::mod_params::{RadioMode, RxMode};
 
 // What a pair of codes names: a mode, the absence of one, or nothing.
-#[derive(Drop)]
+#[derive(Clone, Copy)]
 pub enum ModeCode {
     Named(RadioMode),
     NoMode,
     NoCase,
 }
 
-#[derive(Drop)]
+#[derive(Clone, Copy)]
 pub enum RxModeCode {
     Named(RxMode),
     NoCase,
 }
 
 // The Rust's `RxMode`, from its number and the symbols of a single receive.
+#[tactic(auto, using(sheets::proofs::Lists::get_or_past), unfolding(crate::specs::Modes::rx_mode_of))]
 pub fn rx_mode(code: u8, symbols: u16) -> RxModeCode
     ensures { result ≡ rx_mode_of code symbols }
 {
@@ -31,6 +32,7 @@ pub fn rx_mode(code: u8, symbols: u16) -> RxModeCode
 }
 
 // The Rust's `Option<RadioMode>`: 6 is none; the second code counts in Receive alone, where no symbols are told.
+#[tactic(auto, using(sheets::proofs::Lists::get_or_past), unfolding(crate::specs::Modes::mode_of))]
 pub fn radio_mode(code: u8, rx_code: u8) -> ModeCode
     ensures { result ≡ mode_of code rx_code }
 {

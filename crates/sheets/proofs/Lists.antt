@@ -6,7 +6,7 @@ use Prim.Native.Nat.{ℕ, zero, suc, ◌≤◌}
 use native.Mathlib.Omega.{arith}
 use lib.ListN.{length, get_or}
 
-pub get_d_past : {A : Type 0} (xs : List A) (i : ℕ) (d : A) → length xs ≤ i → get_or xs i d ≡ d
-get_d_past [] i d h = refl
-get_d_past (x ∷ xs) zero d h = absurd (omega arith)
-get_d_past (x ∷ xs) (suc i) d h = get_d_past xs i d (omega arith)
+pub get_or_past : {A : Type 0} (xs : List A) (i : ℕ) (d : A) → length xs ≤ i → get_or xs i d ≡ d
+get_or_past [] i d h = refl
+get_or_past (x ∷ xs) zero d h = absurd (omega arith)
+get_or_past (x ∷ xs) (suc i) d h = get_or_past xs i d (omega arith)

@@ -17,7 +17,7 @@ shut_out receiving = 255 - (mask rx_done + mask rx_timeout + mask payload_crc_er
 shut_out detecting = 255 - (mask cad_done + mask cad_detected)
 shut_out other = 255
 
--- RegDioMapping1: DIO0 tells rx_done (0), tx_done (1) or cad_done (2), and valid_header is told by DIO3 (1); the Rust's 3 for any
+-- RegDioMapping1: DIO0 tells RxDone (0), TxDone (1) or CadDone (2), and ValidHeader is told by DIO3 (1); the Rust's 3 for any
 -- other activity tells nothing
 abbrev pub mapping_keeps : Activity → ℕ
 mapping_keeps receiving = 255 - (mask dio0_mapping + mask dio3_mapping)

@@ -5,12 +5,12 @@ use Rattle.sheets.specs.declared.Variant.{Variant}
 use Rattle.sheets.specs.declared.Variant.TheVariants.{Sx1272, Sx1276}
 use Rattle.sheets.specs.Bits.{Field, bits, bit}
 
--- ---- 00 reg_fifo: the FIFO's data port
+-- ---- 00 RegFifo: the FIFO's data port
 
 abbrev pub reg_fifo : ℕ
 reg_fifo = 0x00
 
--- ---- 01 reg_op_mode
+-- ---- 01 RegOpMode
 
 abbrev pub reg_op_mode : ℕ
 reg_op_mode = 0x01
@@ -36,7 +36,7 @@ reg_frf_mid = 0x07
 abbrev pub reg_frf_lsb : ℕ
 reg_frf_lsb = 0x08
 
--- ---- 09 reg_pa_config
+-- ---- 09 RegPaConfig
 
 abbrev pub reg_pa_config : ℕ
 reg_pa_config = 0x09
@@ -52,12 +52,12 @@ max_power = bits reg_pa_config 6 4
 abbrev pub output_power : Field
 output_power = bits reg_pa_config 3 0
 
--- ---- 0a reg_pa_ramp
+-- ---- 0a RegPaRamp
 
 abbrev pub reg_pa_ramp : ℕ
 reg_pa_ramp = 0x0a
 
--- SX1272 low_pn_tx_pll_off; reserved on the SX1276
+-- SX1272 LowPnTxPllOff; reserved on the SX1276
 abbrev pub low_pn_tx_pll_off : Field
 low_pn_tx_pll_off = bit reg_pa_ramp 4
 
@@ -65,7 +65,7 @@ low_pn_tx_pll_off = bit reg_pa_ramp 4
 abbrev pub pa_ramp : Field
 pa_ramp = bits reg_pa_ramp 3 0
 
--- ---- 0b reg_ocp, written on the SX1276 alone
+-- ---- 0b RegOcp, written on the SX1276 alone
 
 abbrev pub reg_ocp : ℕ
 reg_ocp = 0x0b
@@ -77,7 +77,7 @@ ocp_on = bit reg_ocp 5
 abbrev pub ocp_trim : Field
 ocp_trim = bits reg_ocp 4 0
 
--- ---- 0c reg_lna
+-- ---- 0c RegLna
 
 abbrev pub reg_lna : ℕ
 reg_lna = 0x0c
@@ -104,7 +104,7 @@ reg_fifo_rx_base_addr = 0x0f
 abbrev pub reg_fifo_rx_current_addr : ℕ
 reg_fifo_rx_current_addr = 0x10
 
--- ---- 11 reg_irq_flags_mask and 12 reg_irq_flags, whose bits are the same; a 1 written to 12 clears the flag
+-- ---- 11 RegIrqFlagsMask and 12 RegIrqFlags, whose bits are the same; a 1 written to 12 clears the flag
 
 abbrev pub reg_irq_flags_mask : ℕ
 reg_irq_flags_mask = 0x11
@@ -133,12 +133,12 @@ cad_done = bit reg_irq_flags 2
 abbrev pub cad_detected : Field
 cad_detected = bit reg_irq_flags 0
 
--- ---- 13 reg_rx_nb_bytes: bytes of the last packet received
+-- ---- 13 RegRxNbBytes: bytes of the last packet received
 
 abbrev pub reg_rx_nb_bytes : ℕ
 reg_rx_nb_bytes = 0x13
 
--- ---- 19 reg_pkt_snr_value (two's complement, quarter dB) and 1a reg_pkt_rssi_value
+-- ---- 19 RegPktSnrValue (two's complement, quarter dB) and 1a RegPktRssiValue
 
 abbrev pub reg_pkt_snr_value : ℕ
 reg_pkt_snr_value = 0x19
@@ -146,7 +146,7 @@ reg_pkt_snr_value = 0x19
 abbrev pub reg_pkt_rssi_value : ℕ
 reg_pkt_rssi_value = 0x1a
 
--- ---- 1d reg_modem_config1, 1e reg_modem_config2, 26 reg_modem_config3 (SX1276 alone: another register on the SX1272)
+-- ---- 1d RegModemConfig1, 1e RegModemConfig2, 26 RegModemConfig3 (SX1276 alone: another register on the SX1272)
 
 abbrev pub reg_modem_config1 : ℕ
 reg_modem_config1 = 0x1d
@@ -188,7 +188,7 @@ spreading_factor = bits reg_modem_config2 7 4
 abbrev pub tx_continuous_mode : Field
 tx_continuous_mode = bit reg_modem_config2 3
 
--- ---- the receive window: its two high bits, and 1f reg_symb_timeout_lsb
+-- ---- the receive window: its two high bits, and 1f RegSymbTimeoutLsb
 
 abbrev pub symb_timeout_msb : Field
 symb_timeout_msb = bits reg_modem_config2 1 0
@@ -207,7 +207,7 @@ reg_preamble_lsb = 0x21
 abbrev pub reg_payload_length : ℕ
 reg_payload_length = 0x22
 
--- ---- 31 RegDetectOptimize and 37 reg_detection_threshold
+-- ---- 31 RegDetectOptimize and 37 RegDetectionThreshold
 
 abbrev pub reg_detection_optimize : ℕ
 reg_detection_optimize = 0x31
@@ -239,25 +239,25 @@ invert_iq_tx = bit reg_invertiq 0
 abbrev pub reg_invertiq2 : ℕ
 reg_invertiq2 = 0x3b
 
--- ---- 39 reg_sync_word
+-- ---- 39 RegSyncWord
 
 abbrev pub reg_sync_word : ℕ
 reg_sync_word = 0x39
 
--- ---- 40 reg_dio_mapping1
+-- ---- 40 RegDioMapping1
 
 abbrev pub reg_dio_mapping1 : ℕ
 reg_dio_mapping1 = 0x40
 
--- 0 rx_done, 1 tx_done, 2 cad_done
+-- 0 RxDone, 1 TxDone, 2 CadDone
 abbrev pub dio0_mapping : Field
 dio0_mapping = bits reg_dio_mapping1 7 6
 
--- 1 valid_header
+-- 1 ValidHeader
 abbrev pub dio3_mapping : Field
 dio3_mapping = bits reg_dio_mapping1 1 0
 
--- ---- reg_tcxo (4b, on the SX1272 58) and reg_pa_dac (4d, on the SX1272 5a)
+-- ---- RegTcxo (4b, on the SX1272 58) and RegPaDac (4d, on the SX1272 5a)
 
 abbrev pub reg_tcxo : Variant → ℕ
 reg_tcxo Sx1272 = 0x58

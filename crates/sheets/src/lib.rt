@@ -1,9 +1,11 @@
 // The two variants, and the constant tables that their data sheets give. What is right stands in specs/.
+#![tactic(auto)]
+
 ghost use Rattle.std.specs.Prelude.{◌≡◌, true, ◌<◌, length, get_or};
 ghost use Rattle.sheets.specs.Modem.{hertz, bandwidth_code};
 ghost use Rattle.sheets.specs.Reader.{reader_order};
 
-#[derive(Drop)]
+#[derive(Clone, Copy)]
 pub enum Variant {
     Sx1272,
     Sx1276,

@@ -1,4 +1,6 @@
 // SNR and RSSI of a packet: the slope of the RSSI's line, its offset, and both together.
+#![tactic(auto)]
+
 ghost use Rattle.std.specs.Prelude.{◌≡◌, pos, negsuc, ◌≤ℤ◌};
 ghost use Rattle.sheets.specs.Signal.{snr, rssi};
 
