@@ -54,7 +54,7 @@ put3 log at k a d = slice_set (slice_set (slice_set log at k) (at + 1) a) (at + 
 
 -- ---- the image
 
--- a write stores its byte, but to reg_irq_flags it clears the flags that are 1 in it
+-- a write stores its byte, but to RegIrqFlags it clears the flags that are 1 in it
 abbrev pub stored : ℕ → ℕ → ℕ → ℕ
 stored a v old = cond (a == reg_irq_flags) (cleared v old) v
 

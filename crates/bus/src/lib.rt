@@ -1,4 +1,6 @@
 // The bus: one access each, its record in the log and its effect on the image; the switch, the FIFO, and who is let on. The place where the next record goes is returned.
+#![tactic(auto)]
+
 ghost use Rattle.std.specs.Prelude.{◌≡◌, ◌+◌, ◌≤◌, [], ◌∷◌, length, slice_index};
 ghost use Rattle.params.specs.Addresses.{address};
 ghost use Rattle.bus.specs.Steps.{Done, Read, Write, Modify, SleepWrite};

@@ -1,4 +1,6 @@
 // Interrupts: what is set up for a mode, and what an event is.
+#![tactic(auto, using(bus::proofs::admit::Calls::rooms))]
+
 ghost use Rattle.std.specs.Prelude.{◌≡◌, [], ◌+◌, ◌≤◌, length};
 ghost use Rattle.params.specs.Answers.{tells_done, used_done};
 ghost use Rattle.refusals.specs.Modes.{activity};

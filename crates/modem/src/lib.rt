@@ -1,4 +1,6 @@
 // The modem's parameters: made, judged and written.
+#![tactic(auto, using(bus::proofs::admit::Calls::rooms))]
+
 pub mod detection;
 pub mod framing;
 pub mod inversion;

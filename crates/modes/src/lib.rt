@@ -1,4 +1,6 @@
 // Modes: standby and transmission; sleep and reset; the carrier.
+#![tactic(auto, using(bus::proofs::admit::Calls::rooms))]
+
 ghost use Rattle.std.specs.Prelude.{◌≡◌, [], ◌+◌, ◌≤◌, length};
 ghost use Rattle.params.specs.Answers.{tells_done, used_done};
 ghost use Rattle.bus.specs.Steps.{Done};

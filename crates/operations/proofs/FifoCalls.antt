@@ -14,7 +14,7 @@ use Rattle.refusals.specs.Refusals.{payload_length}
 use Rattle.refusals.proofs.Clear.{passes}
 use Rattle.bus.specs.Steps.{Step}
 use Rattle.bus.specs.Call.{Meets, admitted_fifo, settled, well}
-use Rattle.bus.proofs.admit.Calls.{Room, admittedFifo→room}
+use Rattle.bus.proofs.admit.Calls.{Room, admitted_fifo→room}
 use Rattle.operations.specs.Packets.{sending, received, start_of, fetch_told, fetch_steps}
 
 -- What a call that is lent a FIFO is: its arguments' refusal, the records that it asks room for, what it tells, and its steps.
@@ -52,7 +52,7 @@ module _ (o : FifoOperation) (im fifo log buffer : List ℕ) (used : ℕ) {v ask
       rw (by_verdict (Refused e) g) (record { answers = refl; ends = refl; leaves = refl; holds = refl; logs = refl; fills = refl })
 
   pub room_for : v ≡ Clear → (length fifo ≡ 256) × Room o.asked (used + 3 * o.records) im log
-  room_for g = admittedFifo→room o.asked (used + 3 * o.records) im fifo log used (rw count at (by_verdict Clear g))
+  room_for g = admitted_fifo→room o.asked (used + 3 * o.records) im fifo log used (rw count at (by_verdict Clear g))
 
   -- one that goes on has to meet what a clear verdict leaves
   pub goes_on : {t : Told} {used' : ℕ} {im' fifo' log' buffer' : List ℕ} → v ≡ Clear

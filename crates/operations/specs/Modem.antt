@@ -47,8 +47,8 @@ create_packet preamble implicit payload crc iq sf =
 abbrev pub detection : ℕ → List Step
 detection sf = Modify R.reg_detection_optimize detection_keeps (detection_optimize sf) ∷ Write R.reg_detection_threshold (detection_threshold sf) ∷ []
 
--- SX1276: a field at a time; the optimize flag with R.agc_auto_on cleared.
--- SX1272: R.reg_modem_config1 keeps header and CRC alone.
+-- SX1276: a field at a time; the optimize flag with AgcAutoOn cleared.
+-- SX1272: RegModemConfig1 keeps header and CRC alone.
 abbrev pub modem : Variant → ℕ → ℕ → ℕ → ℕ → List Step
 modem Sx1276 sf code cr flag =
     put_field R.spreading_factor sf ∷ put_field (R.bw Sx1276) code ∷ put_field (R.coding_rate Sx1276) cr

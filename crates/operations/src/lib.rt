@@ -1,1 +1,2 @@
 // What each operation is: its refusal and its steps, as definitions in specs/. Nothing here runs.
+#![tactic(auto)]

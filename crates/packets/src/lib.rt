@@ -1,4 +1,6 @@
 // Packets: a payload sent or received, and its signal.
+#![tactic(auto, using(bus::proofs::admit::Calls::rooms))]
+
 ghost use Rattle.std.specs.Prelude.{◌≡◌, ◌+◌, ◌≤◌, length};
 ghost use Rattle.params.specs.Answers.{tells_payload, used_payload};
 ghost use Rattle.bus.specs.Steps.{Done, buffer_after};

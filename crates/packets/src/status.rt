@@ -32,6 +32,7 @@ fn read_frf(image: &[u8], log: &mut [u8], at: usize) -> Steps
 }
 
 // The SX1276 has two ports, and what RegFrf holds tells which.
+#[tactic(auto, unfolding(sheets::specs::Signal::offset))]
 fn rssi_offset(image: &[u8], log: &mut [u8], at: usize, variant: Variant) -> i16
     requires { (end_after (frf_read variant) image.now at ≤ length log.old) × (length image.now ≡ 128) }
     ensures value { result ≡ offset variant (tuned image.now) }

@@ -1,4 +1,6 @@
 // Listening for a packet: `do_rx`, and channel activity detection, `do_cad`.
+#![tactic(auto, using(bus::proofs::admit::Calls::rooms))]
+
 ghost use Rattle.std.specs.Prelude.{◌≡◌, [], ◌+◌, ◌≤◌, length};
 ghost use Rattle.sheets.specs.Receive.{window};
 ghost use Rattle.params.specs.Answers.{tells_done, used_done};
@@ -52,7 +54,7 @@ fn symbols(n: u16) -> u16
 }
 
 // A receive mode as the registers want it, or why it is refused.
-#[derive(Drop)]
+#[derive(Clone, Copy)]
 struct Reception {
     asked: Verdict,
     symbol_num: u16,

@@ -1,4 +1,6 @@
 // The driver: every operation of the SX1272 and the SX1276 under one name, as the Rust's mod.rs has them.
+#![tactic(auto)]
+
 pub use irq::event::process_irq_event;
 pub use irq::set_irq_params;
 pub use modem::framing::set_packet_params;

@@ -1,4 +1,6 @@
 // What each variant makes of a power in dBm: the power that its outputs take, and their registers then.
+#![tactic(auto)]
+
 pub mod levels;
 pub mod sx1272;
 pub mod sx1276;

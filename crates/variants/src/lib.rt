@@ -1,4 +1,6 @@
 // What each variant does in its own way: its registers, its share of the calls, and the records of a call.
+#![tactic(auto)]
+
 pub mod records;
 pub mod registers;
 pub mod sx1272;

@@ -7,7 +7,7 @@ ghost use Rattle.params.specs.Addresses.{address};
 use params::radio_kind_params::Register;
 use sheets::Variant;
 
-#[derive(Drop)]
+#[derive(Clone, Copy)]
 pub struct Sx1272;
 
 impl Sx1272 {
@@ -18,7 +18,7 @@ impl Sx1272 {
     pub const RAMP_BIT: u8 = 0x10;
 }
 
-#[derive(Drop)]
+#[derive(Clone, Copy)]
 pub struct Sx1276;
 
 impl Sx1276 {

@@ -29,12 +29,15 @@ admitted→room asked end im log used p =
     let f = both (eqb (length im) 128) (eqb (length log % 3) 0 && (eqb (used % 3) 0 && leb used (length log))) (passes (formed im log used) BadImage q.0) in
     record { clear = r.0; whole = eqb→eq (length im) 128 f.0; room = leb→le end (length log) (passes (leb end (length log)) LogFull r.1) }
 
-pub admittedFifo→room : (asked : Verdict) (end : ℕ) (im fifo log : List ℕ) (used : ℕ)
+pub admitted_fifo→room : (asked : Verdict) (end : ℕ) (im fifo log : List ℕ) (used : ℕ)
     → admitted_fifo asked end im fifo log used ≡ Clear → (length fifo ≡ 256) × Room asked end im log
 unfolding admitted_fifo
-admittedFifo→room asked end im fifo log used p =
+admitted_fifo→room asked end im fifo log used p =
     let q = both_clear (unless (formed_fifo fifo) BadImage) (admitted asked end im log used) p in
     (eqb→eq (length fifo) 256 (passes (formed_fifo fifo) BadImage q.0), admitted→room asked end im log used q.1)
+
+-- both, by one name
+pub ruleset rooms = (admitted→room, admitted_fifo→room)
 
 -- ---- no FIFO is lent
 

@@ -1,0 +1,13 @@
+-- `tx_power::levels::pa_dac` meets its contract: with the +20 dBm setting, or without.
+use Rattle.std.proofs.Common.{w32}
+use mir.ValLaws.{to_z-of_z}
+use Rattle.sheets.specs.Power.{pa_dac}
+use Rattle.tx_power.proofs.levels.pa_dac.Goals as goal
+
+pub returns-then-strong : goal.returns-then-strong
+unfolding pa_dac
+returns-then-strong c = rw (← (rw (to_z-of_z w32 _ c.ranges.p_out) at c.if-strong.ensures))
+
+pub returns-else-strong : goal.returns-else-strong
+unfolding pa_dac
+returns-else-strong c = rw (← (rw (to_z-of_z w32 _ c.ranges.p_out) at c.if-strong.ensures))
