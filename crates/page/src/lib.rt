@@ -1,1 +1,2 @@
 // One link, one image: for any page of registers, and LoRa's page.
+#![tactic(auto)]

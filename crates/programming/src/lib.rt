@@ -1,4 +1,6 @@
 // Whole programming of a link: it is refused, or its steps are done; and the byte that it leaves in one register.
+#![tactic(auto)]
+
 ghost use Rattle.std.specs.Prelude.{[]};
 ghost use Rattle.params.specs.Answers.{tells_done, used_done};
 ghost use Rattle.bus.specs.Call.{Meets};

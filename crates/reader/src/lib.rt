@@ -1,4 +1,6 @@
 // The link reader: the link that an image holds, and the register that rules out that it holds one.
+#![tactic(auto)]
+
 ghost use Rattle.std.specs.Prelude.{◌≡◌, ◌<◌, length};
 ghost use Rattle.params.specs.Answers.{tells_link};
 ghost use Rattle.page.specs.Page.{read};
