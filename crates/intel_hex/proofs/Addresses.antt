@@ -1,5 +1,4 @@
 -- Which addresses records set, how often, and to what: what the walk and the definition of a right text say of it.
--- Assumes nothing.
 use mathlib.Core.Path.{◌≡◌, refl, ap, ap₂, subst, ◌∙◌}
 use mathlib.Core.Logic.{⊎_elim}
 use mathlib.Core.Bool.{true, false}

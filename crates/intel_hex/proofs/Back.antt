@@ -1,5 +1,4 @@
 -- Our layout is a right text that sets the image which was written, so reading it gives that image back.
--- Assumes nothing.
 use mathlib.Core.Path.{◌≡◌, refl, sym, ap, ap₂, subst}
 use mathlib.Core.Logic.{inl, ⊎_elim}
 use mathlib.Core.Bool.{true, false, cond}

@@ -1,5 +1,4 @@
 -- What stands before the LF of a record's line: it is the text's first part, its form is right, and it says the record.
--- Assumes nothing.
 use mathlib.Core.Path.{◌≡◌, refl, ◌∙◌}
 use mathlib.Core.Logic.{⊎_elim}
 use mathlib.Core.Bool.{true, false}

@@ -1,5 +1,4 @@
 -- Digits and the bytes that they say: no digit ends a line, what they say is below 256, and digits that are written say their bytes.
--- Assumes nothing.
 use mathlib.Core.Path.{◌≡◌, refl, sym, ap, ap₂, ◌∙◌}
 use mathlib.Core.Bool.{Bool, true, false, cond, true≢false}
 use mathlib.Core.List.{List, [], ◌∷◌, ◌++◌}

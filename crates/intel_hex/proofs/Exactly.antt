@@ -1,5 +1,4 @@
 -- A text that is read is a right text, and sets the image that it leaves: with `accepted`, just the right texts are read.
--- Assumes nothing.
 use mathlib.Core.Path.{◌≡◌, refl, sym, ap, subst, ◌∙◌}
 use mathlib.Core.Logic.{⊎_elim}
 use mathlib.Core.Bool.{Bool, true, false, cond, true≢false}

@@ -1,5 +1,4 @@
 -- What a record is in which no fault is found: a data record at places that are free, or the end record.
--- Assumes nothing.
 use mathlib.Core.Path.{◌≡◌, refl, ◌∙◌}
 use mathlib.Core.Logic.{inl, inr}
 use mathlib.Core.Bool.{Bool, true, false, cond, ◌&&◌, not}

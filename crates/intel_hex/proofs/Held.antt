@@ -1,5 +1,4 @@
 -- What a walk holds: the marks tell the faults that the records give, and a record more is held where its bytes are put.
--- Assumes nothing.
 use mathlib.Core.Path.{◌≡◌, refl, sym, ap, ◌∙◌}
 use mathlib.Core.Logic.{⊎_elim}
 use mathlib.Core.Bool.{Bool, true, false, cond, ◌||◌, not}

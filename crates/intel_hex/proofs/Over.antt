@@ -1,5 +1,4 @@
 -- Values put into a list from a place on, one after the other: there it holds them, elsewhere what it held.
--- Assumes nothing.
 use mathlib.Core.Path.{◌≡◌, refl, ◌∙◌}
 use mathlib.Core.Logic.{⊎_elim}
 use mathlib.Core.Bool.{Bool, true, false, cond, ◌&&◌}

@@ -1,5 +1,4 @@
 -- What `read_hex` leaves: the image that the records set, or what was lent.
--- Assumes nothing.
 use mathlib.Core.Path.{◌≡◌, refl}
 use mathlib.Core.Bool.{true, false}
 use mathlib.Core.List.{List, []}

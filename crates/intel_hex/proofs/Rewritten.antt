@@ -1,5 +1,4 @@
 -- Writing an image that was read gives our layout of it, and reading that gives the same image.
--- Assumes nothing.
 use mathlib.Core.Path.{◌≡◌, sym, subst}
 use mathlib.Core.Logic.{⊎_elim}
 use mathlib.Core.Bool.{true, false}

@@ -30,6 +30,7 @@ pub(crate) fn digits_of(line: &[u8]) -> &[u8]
     &held[1..]
 }
 
+#[tactic(auto, using(text::proofs::reading::Tests::fails), unfolding(crate::specs::Record::hex_pairs))]
 fn hex_pairs(digits: &[u8]) -> bool
     ensures { result ≡ hex_pairs digits.now }
 {

@@ -9,7 +9,7 @@ use text::printing::{put, put_hex};
 use text::reading::field;
 
 // The number that stands between the words.
-#[derive(Drop)]
+#[derive(Clone, Copy)]
 pub(crate) enum Figure {
     Nothing,
     Byte(u8),
@@ -17,9 +17,10 @@ pub(crate) enum Figure {
 }
 
 // The row of the tables that has the words, and the number between them.
-#[derive(Drop)]
+#[derive(Clone, Copy)]
 struct Phrase(usize, Figure);
 
+#[tactic(auto, unfolding(text::specs::Bytes::index_of))]
 fn phrase_of(f: HexFault) -> Phrase
     ensures { words_of f ≡ phrase result.0 result.1 }
 {

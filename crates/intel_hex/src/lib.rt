@@ -1,4 +1,6 @@
 // Register images as Intel HEX: written in one layout, and read from any text of data records and an end record.
+#![tactic(auto)]
+
 ghost use Rattle.std.specs.Prelude.{◌≡◌, length};
 ghost use Rattle.intel_hex.specs.Calls.{write_answer, write_leaves, read_answer, read_leaves};
 ghost use Rattle.intel_hex.specs.Reading.{is_read};
@@ -6,6 +8,7 @@ ghost use Rattle.intel_hex.specs.Reading.{is_read};
 use layout::put_layout;
 use params::answers::{ReadHexAnswer, WriteHexAnswer};
 use params::mod_params::RadioError;
+use text::bytes::copy;
 use walk::walk;
 
 mod digits;
@@ -53,7 +56,7 @@ pub fn read_hex(text: &[u8], image: &mut [u8]) -> ReadHexAnswer
     let mut set = [0u8; 128];
     let answer = walk(text, &mut held, &mut set);
     if is_read(answer) {
-        bytes::copy(&held, image);
+        copy(&held, image);
     }
     answer
 }

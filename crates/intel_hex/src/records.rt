@@ -6,7 +6,7 @@ ghost use Rattle.intel_hex.specs.Faults.{otherwise, form_fault, end_fault, kind_
 use crate::digits::{byte_at, digits_of, is_digit_line};
 use params::hex_faults::HexFault;
 
-#[derive(Drop)]
+#[derive(Clone, Copy)]
 pub(crate) enum Judged {
     Fine,
     Wrong(HexFault),

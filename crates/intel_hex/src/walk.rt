@@ -9,12 +9,12 @@ ghost use Rattle.intel_hex.specs.Reading.{Holds, Took, Leaves, Shown, free_in, t
 use crate::digits::digits_of;
 use crate::places::{free_fault, place_fault, put_record};
 use crate::records::{Judged, address, count, first, form_fault, is_end, kind_fault, sum_fault};
-use bytes::scan::find;
 use params::answers::ReadHexAnswer;
 use params::hex_faults::HexFault;
+use text::bytes::find;
 
 // What a line turned out to be.
-#[derive(Drop)]
+#[derive(Clone, Copy)]
 pub(crate) enum Taken {
     Data,
     End,

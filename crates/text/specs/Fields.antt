@@ -1,6 +1,6 @@
 -- The fields of a line, parted by a byte, and a text's parts.
 use Rattle.std.specs.Prelude.{List, [], ◌∷◌, cond, ℕ, zero, suc, eqb, take, drop}
-use Rattle.bytes.specs.Bytes.{index_of}
+use Rattle.text.specs.Bytes.{index_of}
 
 -- how often b stands in s
 abbrev pub count_of : ℕ → List ℕ → ℕ

@@ -1,3 +1,4 @@
+pub mod Bytes
 pub mod Fields
 pub mod Words
 pub mod Decimal

@@ -1,18 +1,18 @@
 // Bytes as hexadecimal digits.
 ghost use Rattle.std.specs.Prelude.{◌≡◌, ◌++◌, ◌/◌, ◌≤◌, length, drop};
-ghost use Rattle.text.specs.Hex.{ten as tenOf, is_letter, is_nibble, nibble as nibbleOf, any_digit, worth as worthOf, hex_digits, bytes_of, bytes_read, bytes_left};
+ghost use Rattle.text.specs.Hex.{ten as ten_of, is_letter, is_nibble, nibble as nibble_of, any_digit, worth as worth_of, hex_digits, bytes_of, bytes_read, bytes_left};
 
 use crate::read_decimals::is_digit;
 
 // Which letters stand for the digits from ten on.
-#[derive(Drop)]
+#[derive(Clone, Copy)]
 pub enum Case {
     Lower,
     Upper,
 }
 
 // What a text says, read as bytes.
-#[derive(Drop)]
+#[derive(Clone, Copy)]
 pub enum Bytes {
     Are(usize),
     NotHex,
@@ -21,7 +21,7 @@ pub enum Bytes {
 
 // The letter that stands for ten.
 pub fn ten(case: Case) -> u8
-    ensures { (result ≡ tenOf case) × (result ≤ 97) }
+    ensures { (result ≡ ten_of case) × (result ≤ 97) }
 {
     match case {
         Case::Lower => b'a',
@@ -50,7 +50,7 @@ pub fn is_nibble(b: u8, a: u8) -> bool
 
 // What a digit is worth, 0 where it is none.
 pub fn nibble(b: u8, a: u8) -> u8
-    ensures { (result ≡ nibbleOf a b) × (result ≤ 15) }
+    ensures { (result ≡ nibble_of a b) × (result ≤ 15) }
 {
     if is_digit(b) {
         return b - b'0';
@@ -73,7 +73,7 @@ pub fn is_any_digit(b: u8) -> bool
 
 // What it is worth, 0 where it is none.
 pub fn worth(b: u8) -> u8
-    ensures { (result ≡ worthOf b) × (result ≤ 15) }
+    ensures { (result ≡ worth_of b) × (result ≤ 15) }
 {
     if is_nibble(b, b'A') {
         return nibble(b, b'A');
@@ -81,6 +81,7 @@ pub fn worth(b: u8) -> u8
     nibble(b, b'a')
 }
 
+#[tactic(auto, using(crate::proofs::reading::Tests::fails), unfolding(crate::specs::Hex::hex_digits))]
 fn hex_digits(s: &[u8], a: u8) -> bool
     ensures { result ≡ hex_digits a s.now }
 {
@@ -113,12 +114,13 @@ fn decode(s: &[u8], a: u8, out: &mut [u8])
 
 // Whole bytes, of digits alone; none is whole too.
 pub fn is_hex(s: &[u8], case: Case) -> bool
-    ensures { result ≡ hex_digits (tenOf case) s.now }
+    ensures { result ≡ hex_digits (ten_of case) s.now }
 {
     hex_digits(s, ten(case))
 }
 
 // Puts the bytes that the text says at the start of out, where out has room for them; else out stays as it is.
+#[tactic(auto, unfolding(crate::specs::Hex::bytes_read, crate::specs::Hex::bytes_left))]
 pub fn read_hex(s: &[u8], case: Case, out: &mut [u8]) -> Bytes
     ensures { (result ≡ bytes_read case s.now (length out.old)) × (out.new ≡ bytes_left case s.now out.old) }
 {

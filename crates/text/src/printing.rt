@@ -1,15 +1,16 @@
 // Writing text into a lent place, behind what stands there already: bytes, as they are and as hexadecimal digits. Each function answers where its text ends.
 ghost use Rattle.std.specs.Prelude.{◌≡◌, ◌+◌, ◌*◌, ◌≤◌, ◌<◌, length};
 ghost use Rattle.text.specs.Text.{Appended};
-ghost use Rattle.text.specs.Numbers.{hex_digit, hex as hexOf};
+ghost use Rattle.text.specs.Numbers.{hex_digit, hex as hex_of};
 
+use crate::bytes::copy;
 use crate::hex::{Case, ten};
 
 pub fn put(text: &[u8], out: &mut [u8], at: usize) -> usize
     requires { at + length text.now ≤ length out.old }
     ensures { Appended text.now at out.old result out.new }
 {
-    at + bytes::copy(text, &mut out[at..])
+    at + copy(text, &mut out[at..])
 }
 
 fn hex_digit(d: u8, a: u8) -> u8
@@ -22,7 +23,7 @@ fn hex_digit(d: u8, a: u8) -> u8
 // Two digits a byte.
 pub fn put_hex(s: &[u8], case: Case, out: &mut [u8], at: usize) -> usize
     requires { at + 2 * length s.now ≤ length out.old }
-    ensures appended { Appended (hexOf case s.now) at out.old result out.new }
+    ensures appended { Appended (hex_of case s.now) at out.old result out.new }
     ensures value { result ≡ at + 2 * length s.now }
 {
     let a = ten(case);

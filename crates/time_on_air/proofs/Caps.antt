@@ -73,7 +73,7 @@ small n k h l = omega arith
 
 capped_same : (p : Packet) → Counts p → capped p ≡ p
 capped_same p c =
-    rw (small p.id 4294967295 c.id (omega arith), small p.spreading_factor 12 c.sf-high (omega arith), small p.bandwidth 9 c.bandwidth (omega arith), small p.coding_rate 4 c.coding (omega arith), small p.preamble 65535 c.preamble (omega arith), small p.length 255 c.size (omega arith), small p.implicit_header 1 c.header (omega arith), small p.crc_on 1 c.crc (omega arith))
+    rw (small p.id 4294967295 c.id (omega arith), small p.spreading_factor 12 c.sf_high (omega arith), small p.bandwidth 9 c.bandwidth (omega arith), small p.coding_rate 4 c.coding (omega arith), small p.preamble 65535 c.preamble (omega arith), small p.length 255 c.size (omega arith), small p.implicit_header 1 c.header (omega arith), small p.crc_on 1 c.crc (omega arith))
 
 -- ---- packets whose numbers are the same up to 2^32
 

@@ -2,7 +2,7 @@
 -- Assumes nothing.
 use mathlib.Core.Path.{◌≡◌, refl}
 use mathlib.Core.Logic.{⊎_elim}
-use mathlib.Core.Bool.{Bool, true, false, cond, ◌&&◌, not}
+use mathlib.Core.Bool.{Bool, true, false, cond, ◌&&◌}
 use mathlib.Core.List.{List, [], ◌∷◌}
 use Prim.Native.Nat.{ℕ, suc, ◌+◌, ◌*◌, ◌-◌, ◌≤◌, ◌<◌}
 use native.Mathlib.Omega.{arith}
@@ -12,7 +12,7 @@ use lib.ListN.{length}
 use Rattle.text.specs.Words.{all}
 use Rattle.text.specs.Decimal.{is_digit, digits, value_from}
 use Rattle.time_on_air.specs.Lines.{is_number}
-use Rattle.time_on_air.specs.Onward.{more, held_from}
+use Rattle.time_on_air.specs.Onward.{held_from}
 use Rattle.text.proofs.reading.Tests.{decided}
 use Rattle.time_on_air.proofs.Tests.{and_false, and_true}
 use Rattle.time_on_air.proofs.Caps.{cap}

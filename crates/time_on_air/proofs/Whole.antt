@@ -19,7 +19,7 @@ use Rattle.time_on_air.specs.Symbols.{quarter_chips}
 use Rattle.text.specs.Fields.{parts}
 use Rattle.time_on_air.specs.Lines.{tab, lf, form_fault, packet_in, otherwise, line_fault}
 use Rattle.time_on_air.specs.Report.{most_lines, first_bad, share, sum, microseconds, each, verdict, totals}
-use Rattle.time_on_air.specs.Onward.{outcome_of, sent, bad, line_from, said_numbers, most_sum, grown, added, rounded, onward}
+use Rattle.time_on_air.specs.Onward.{outcome_of, sent, line_from, said_numbers, most_sum, grown, added, rounded, onward}
 use Rattle.text.proofs.reading.Parts.{some}
 use Rattle.text.proofs.reading.Tests.{decided}
 use Rattle.time_on_air.proofs.Lines.{judges}

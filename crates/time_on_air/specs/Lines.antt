@@ -1,5 +1,5 @@
 -- A depot's file (document 02, request [1]): a text of lines, a line of eight numbers.
-use Rattle.std.specs.Prelude.{Bool, cond, ◌&&◌, ◌||◌, not, List, [], ◌∷◌, ℕ, zero, suc, eqb, length, get_or}
+use Rattle.std.specs.Prelude.{Bool, ◌&&◌, ◌||◌, not, List, [], ◌∷◌, ℕ, zero, suc, eqb, length, get_or}
 use Rattle.text.specs.Fields.{parts}
 use Rattle.text.specs.Decimal.{digits, value_from}
 use Rattle.params.specs.declared.line_faults.LineFault.TheVariants.{Form}

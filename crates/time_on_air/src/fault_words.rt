@@ -10,12 +10,13 @@ use text::put_decimals::put_decimal;
 use text::reading::field;
 
 // The field that is wrong, counted from 0, or 8 where it is none of the eight; and the row of the table that has the reason.
-#[derive(Drop)]
+#[derive(Clone, Copy)]
 struct Phrase {
     field: usize,
     row: usize,
 }
 
+#[tactic(auto, unfolding(text::specs::Bytes::index_of))]
 fn form_phrase(k: usize) -> Phrase
     ensures { words_of (Form k) ≡ phrase result.field result.row }
 {
@@ -26,6 +27,7 @@ fn form_phrase(k: usize) -> Phrase
     }
 }
 
+#[tactic(auto, unfolding(text::specs::Bytes::index_of))]
 fn phrase_of(f: LineFault) -> Phrase
     ensures { words_of f ≡ phrase result.field result.row }
 {

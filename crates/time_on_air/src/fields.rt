@@ -1,6 +1,6 @@
 // The fields of a line, byte after byte: the digits of a number, and what another byte ends.
 ghost use Rattle.std.specs.Prelude.{◌≡◌, true, ◌≤◌, length};
-ghost use Rattle.time_on_air.specs.Onward.{more as moreOf, goes_on, missing as missingOf};
+ghost use Rattle.time_on_air.specs.Onward.{more as more_of, goes_on, missing as missing_of};
 ghost use Rattle.time_on_air.specs.Fields.{Stopped, wrong_at, tab_ends, lf_ends, ended_by, Right};
 
 use text::read_decimals::is_digit;
@@ -10,7 +10,7 @@ const TAB: u8 = b'\t';
 const LF: u8 = b'\n';
 
 // Where digits end, and the number that is held then.
-#[derive(Drop)]
+#[derive(Clone, Copy)]
 pub struct Run {
     pub at: usize,
     pub held: u64,
@@ -18,7 +18,7 @@ pub struct Run {
 
 // What a byte ends that is no digit of a number: a field, a line, or a field or a line that is wrong, with the number of its
 // first wrong field.
-#[derive(Drop)]
+#[derive(Clone, Copy)]
 pub enum Ended {
     Field,
     Line,
@@ -38,7 +38,7 @@ fn goes_on(held: u64, b: u8) -> bool
 // One digit more, of a number that is held as one more than it is.
 fn more(held: u64, b: u8) -> u64
     requires { goes_on held b ≡ true }
-    ensures { result ≡ moreOf held b }
+    ensures { result ≡ more_of held b }
 {
     let digit = (b - b'0') as u64;
     if held == 0 {
@@ -75,7 +75,7 @@ pub fn digits(piece: &[u8], from: usize, held: u64) -> Run
 
 // A line that ends before its eighth field lacks the next one.
 fn missing(field: usize) -> usize
-    ensures { result ≡ missingOf field }
+    ensures { result ≡ missing_of field }
 {
     if field < 7 { field + 1 } else { 8 }
 }

@@ -1,4 +1,6 @@
 // Airtime per depot: what the packets of one depot's file add up to, for each bandwidth, or the first line that is bad.
+#![tactic(auto)]
+
 ghost use Rattle.time_on_air.specs.Report.{Reported};
 
 use params::answers::AirtimeAnswer;

@@ -4,7 +4,7 @@ ghost use Rattle.time_on_air.specs.Packet.{sheet_fault, flag_fault, code_fault, 
 
 use params::line_faults::LineFault;
 
-#[derive(Drop)]
+#[derive(Clone, Copy)]
 pub struct Packet {
     pub id: u64,
     pub spreading_factor: u64,
@@ -16,12 +16,13 @@ pub struct Packet {
     pub crc_on: u64,
 }
 
-#[derive(Drop)]
+#[derive(Clone, Copy)]
 pub enum Judged {
     Fine,
     Wrong(LineFault),
 }
 
+#[tactic(auto, unfolding(crate::specs::Packet::sheet_fault))]
 fn sheet_fault(sf: u64, implicit: u64) -> Judged
     ensures { result ≡ sheet_fault sf implicit }
 {
@@ -36,6 +37,7 @@ fn sheet_fault(sf: u64, implicit: u64) -> Judged
     Judged::Fine
 }
 
+#[tactic(auto, unfolding(crate::specs::Packet::flag_fault))]
 fn flag_fault(sf: u64, implicit: u64, crc: u64) -> Judged
     ensures { result ≡ flag_fault sf implicit crc }
 {
@@ -48,6 +50,7 @@ fn flag_fault(sf: u64, implicit: u64, crc: u64) -> Judged
     sheet_fault(sf, implicit)
 }
 
+#[tactic(auto, unfolding(crate::specs::Packet::code_fault))]
 fn code_fault(sf: u64, bw: u64, cr: u64, implicit: u64, crc: u64) -> Judged
     ensures { result ≡ code_fault sf bw cr implicit crc }
 {
@@ -70,6 +73,7 @@ fn code_fault(sf: u64, bw: u64, cr: u64, implicit: u64, crc: u64) -> Judged
 }
 
 // First what is out of its range, wherever it stands in the line.
+#[tactic(auto, unfolding(crate::specs::Packet::packet_fault))]
 pub fn packet_fault(p: Packet) -> Judged
     ensures { result ≡ packet_fault p }
 {

@@ -9,7 +9,7 @@ use params::answers::AirtimeAnswer;
 use params::line_faults::LineFault;
 
 // The answer so far, where the reading is, the sums of the lines that ended, and the numbers of the fields that ended since.
-#[derive(Drop)]
+#[derive(Clone, Copy)]
 pub struct Reading {
     answer: AirtimeAnswer,
     place: Place,

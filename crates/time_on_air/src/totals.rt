@@ -3,7 +3,7 @@ ghost use Rattle.std.specs.Prelude.{◌≡◌, ◌≤◌, ◌<◌, min, length};
 ghost use Rattle.time_on_air.specs.Packet.{packet_fault, Counts};
 ghost use Rattle.time_on_air.specs.Lines.{packet_of};
 ghost use Rattle.time_on_air.specs.Report.{microseconds};
-ghost use Rattle.time_on_air.specs.Onward.{grown as grownOf, added, rounded, most_sum, summed};
+ghost use Rattle.time_on_air.specs.Onward.{grown as grown_of, added, rounded, most_sum, summed};
 
 use crate::packet::{Judged, Packet, packet_fault};
 use crate::symbols::quarter_chips;
@@ -13,7 +13,7 @@ const MOST_SUM: u64 = 70_000_000_000_000;
 
 fn grown(sum: u64, chips: u64) -> u64
     requires { chips ≤ 4294967295 }
-    ensures { result ≡ grownOf sum chips }
+    ensures { result ≡ grown_of sum chips }
 {
     if sum < MOST_SUM { sum + chips } else { sum }
 }
@@ -33,6 +33,7 @@ fn packet_of(ns: &[u64; 8]) -> Packet
     }
 }
 
+#[tactic(auto, unfolding(crate::specs::Onward::added))]
 fn add(sums: &mut [u64; 10], p: Packet)
     requires { Counts p }
     ensures { sums.new ≡ added sums.old p }
@@ -61,6 +62,7 @@ fn bounded(sum: u64) -> u64
 }
 
 // Rounded up.
+#[tactic(auto, using(crate::proofs::totals::Hertz::some_hertz))]
 fn total(bw: u8, sum: u64) -> u64
     requires { bw < 10 }
     ensures { result ≡ microseconds bw (min sum most_sum) }
@@ -69,6 +71,7 @@ fn total(bw: u8, sum: u64) -> u64
     (250_000 * bounded(sum) + (hertz - 1)) / hertz
 }
 
+#[tactic(auto, unfolding(crate::specs::Onward::rounded))]
 pub fn totals_of(sums: [u64; 10]) -> [u64; 10]
     ensures { result ≡ rounded sums }
 {

@@ -11,7 +11,7 @@ pub const MOST_LINES: u64 = 50_000;
 
 // Where a reading is: the lines that ended, and of the line that has not which field it is in, the number that is held of it, and
 // whether a field is wrong, so that the line is skipped.
-#[derive(Drop)]
+#[derive(Clone, Copy)]
 pub struct Place {
     pub lines: u64,
     pub field: usize,
@@ -19,7 +19,7 @@ pub struct Place {
     pub skipping: bool,
 }
 
-#[derive(Drop)]
+#[derive(Clone, Copy)]
 pub enum Turn {
     On(Place),
     Bad(LineFault),

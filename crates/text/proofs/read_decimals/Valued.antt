@@ -1,5 +1,4 @@
 -- The value of digits, as a loop reads them: what `value` and its callers cite.
--- Assumes nothing.
 use mathlib.Core.Path.{◌≡◌, refl}
 use mathlib.Core.List.{List, [], ◌∷◌}
 use mathlib.Core.Bool.{Bool, true, false, cond}

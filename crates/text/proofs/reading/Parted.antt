@@ -1,5 +1,4 @@
 -- How fields follow one another, and parts of a text: what `count`, `start`, `field` and others cite.
--- Assumes nothing.
 use mathlib.Core.Path.{◌≡◌, refl}
 use mathlib.Core.List.{List, ◌++◌, append-nil}
 use Prim.Native.Nat.{ℕ, zero, suc, ◌+◌, ◌-◌, ◌≤◌, ◌<◌, min}
@@ -10,7 +9,7 @@ use mathlib.Core.Bool.{Bool, true, false}
 use lib.Dec.{leb}
 use lib.ListN.{length, take, drop, get_or, drop_of_length-le, length-take, length-drop}
 use lib.Seq.{drop-cons, drop-drop, take-length, take_all}
-use Rattle.bytes.specs.Bytes.{index_of, slice}
+use Rattle.text.specs.Bytes.{index_of, slice}
 use Rattle.text.specs.Fields.{count_of, field_at}
 
 pub counted : (b : ℕ) (s : List ℕ) (i : ℕ) → i < length s → get_or s i 0 ≡ b → count_of b (drop i s) ≡ suc (count_of b (drop (i + 1) s))

@@ -1,5 +1,4 @@
 -- A text's parts: there are some, whatever it is, and the first ends where the byte is found that parts them.
--- Assumes nothing.
 use mathlib.Core.Path.{◌≡◌, refl}
 use mathlib.Core.Logic.{⊎_elim}
 use mathlib.Core.Bool.{Bool, true, false, cond}
@@ -8,7 +7,7 @@ use Prim.Native.Nat.{ℕ, suc, ◌<◌}
 use native.Mathlib.Omega.{arith}
 use lib.Dec.{eqb}
 use lib.ListN.{length, take, drop}
-use Rattle.bytes.specs.Bytes.{index_of, index_after}
+use Rattle.text.specs.Bytes.{index_of}
 use Rattle.text.specs.Fields.{longer, parts}
 use Rattle.text.proofs.reading.Tests.{decided}
 
@@ -34,7 +33,7 @@ some sep (b ∷ s) = either_some (eqb b sep) b (parts sep s)
 module _ (sep : ℕ) where
   -- no such byte: one part
   pub one_part : (s : List ℕ) → index_of sep s ≡ length s → parts sep s ≡ s ∷ []
-  unfolding index_of index_after
+  unfolding index_of
   one_part [] e = refl
   one_part (b ∷ s) e =
       ⊎_elim
@@ -44,7 +43,7 @@ module _ (sep : ℕ) where
 
   pub first_part : (s : List ℕ) → index_of sep s < length s
       → parts sep s ≡ take (index_of sep s) s ∷ parts sep (drop (suc (index_of sep s)) s)
-  unfolding index_of index_after
+  unfolding index_of
   first_part [] h = absurd (omega arith)
   first_part (b ∷ s) h =
       ⊎_elim

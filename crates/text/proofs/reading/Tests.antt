@@ -1,5 +1,4 @@
 -- A test is true or false; tests that are made together, a test of each element of a text, as a loop makes it, and what stands past a text's end.
--- Assumes nothing.
 use mathlib.Core.Path.{◌≡◌, refl, sym}
 use mathlib.Core.Logic.{◌⊎◌, inl, inr}
 use mathlib.Core.List.{List, [], ◌∷◌}

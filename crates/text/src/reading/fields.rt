@@ -2,7 +2,7 @@
 ghost use Rattle.std.specs.Prelude.{◌≡◌, ◌+◌, ◌≤◌, min, length, drop};
 ghost use Rattle.text.specs.Fields.{count_of, field_at};
 
-use bytes::scan::find;
+use crate::bytes::find;
 
 // How often a byte stands in a text; a line has one field more than separators.
 pub fn count(s: &[u8], b: u8) -> usize

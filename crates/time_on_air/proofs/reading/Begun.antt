@@ -1,24 +1,13 @@
--- A line has begun where one of its fields has ended, and where something of a field was read; and a bad line leaves the totals as they were.
+-- A bad line leaves the totals as they were, and stays, whatever follows.
 -- Assumes nothing.
 use mathlib.Core.Path.{◌≡◌, refl}
-use mathlib.Core.Bool.{Bool, true, false, cond, not}
-use mathlib.Core.List.{List, []}
-use Prim.Native.Nat.{ℕ, zero, suc}
-use native.Mathlib.Omega.{arith}
-use borrow.Author.Tests.{ne_eqb}
-use lib.Dec.{eqb, ltb}
+use mathlib.Core.Bool.{Bool, true, false, cond}
+use mathlib.Core.List.{List}
+use Prim.Native.Nat.{ℕ, suc}
+use lib.Dec.{ltb}
 use Rattle.params.specs.declared.line_faults.LineFault.{LineFault}
 use Rattle.time_on_air.specs.Report.{most_lines}
-use Rattle.time_on_air.specs.Onward.{Outcome, answer_of, begun, bad_line, bad, late, left_by, unless_bad}
-
-pub begun_field : (w : Bool) (k held : ℕ) → (k ≡ 0 → ⊥) → begun w k held [] ≡ true
-begun_field true k held h = refl
-begun_field false zero held h = absurd (h refl)
-begun_field false (suc k) held h = refl
-
-pub begun_held : (held : ℕ) → not (eqb held 0) ≡ begun false 0 held []
-begun_held zero = refl
-begun_held (suc held) = rw (ne_eqb (suc held) 0 (λ i. omega arith))
+use Rattle.time_on_air.specs.Onward.{Outcome, answer_of, bad_line, bad, late, left_by, unless_bad}
 
 either_leaves : (t : Bool) (f : LineFault) (n : ℕ) (old : List ℕ) → left_by (cond t (bad f n) late) old ≡ old
 either_leaves true f n old = refl

@@ -58,12 +58,12 @@ module _ (p : Packet) (c : Counts p) where
       let de = optimize sf p.bandwidth in
       let bits = coded_bits sf p.length p.implicit_header p.crc_on in
       let d : coded_symbols sf de p.coding_rate bits ≤ 17048 =
-      rw (above_zero sf de p.coding_rate bits c.sf-low (optimize_le sf p.bandwidth))
-      (coded_bound sf de p.coding_rate (greater_of0 bits) c.sf-high c.coding (bits_bound sf p.length p.implicit_header p.crc_on c.size c.crc)) in
+      rw (above_zero sf de p.coding_rate bits c.sf_low (optimize_le sf p.bandwidth))
+      (coded_bound sf de p.coding_rate (greater_of0 bits) c.sf_high c.coding (bits_bound sf p.length p.implicit_header p.crc_on c.size c.crc)) in
       let e : p.preamble ≤ 65535 = c.preamble in
       omega arith
 
   pub chips_bound : quarter_chips p ≤ 1353240576
   unfolding quarter_chips
   chips_bound =
-      mul-le-mul {n₁ = quarter_symbols p} {m₁ = 2 ^ p.spreading_factor} {n₂ = 330381} {m₂ = 4096} symbols_bound (pow_mono c.sf-high)
+      mul-le-mul {n₁ = quarter_symbols p} {m₁ = 2 ^ p.spreading_factor} {n₂ = 330381} {m₂ = 4096} symbols_bound (pow_mono c.sf_high)

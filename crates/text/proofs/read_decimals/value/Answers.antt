@@ -1,0 +1,24 @@
+-- `text::read_decimals::value` meets its contract: what is left, after the value read so far, gives the value of the whole.
+use Rattle.std.proofs.Common.{sym, arith}
+use Rattle.std.proofs.Math.ListN.{drop_of_length-le}
+use borrow.Author.Tests.{le-leb}
+use Rattle.text.specs.Decimal.{valued}
+use Rattle.text.proofs.read_decimals.Valued.{too_much}
+use Rattle.text.proofs.read_decimals.value.Goals as goal
+
+pub returns-then-n-most : goal.returns-then-n-most
+returns-then-n-most c =
+    let l = c.loop-i in
+    too_much c.args.most c.args.s.now l.i l.n c.loop-i-test.true l.invariant.2 (omega arith)
+
+pub returns-then-d-most : goal.returns-then-d-most
+returns-then-d-most c =
+    let l = c.loop-i in
+    too_much c.args.most c.args.s.now l.i l.n c.loop-i-test.true l.invariant.2 (omega arith)
+
+pub returns : goal.returns
+unfolding valued
+returns c =
+    let l = c.loop-i in
+    let e = rw (drop_of_length-le c.args.s.now c.loop-i-test.false) at l.invariant.2 in
+    rw (sym e, le-leb l.n c.args.most l.invariant.1)

@@ -1,0 +1,10 @@
+-- `text::reading::fields::count`: what was counted and what is left to count make up the whole.
+use Rattle.std.proofs.Common.{length, ◌-◌, ◌≡◌, ◌+◌, ◌≤◌, drop}
+use Rattle.text.specs.Fields.{count_of}
+use Rattle.text.proofs.reading.fields.count.Given as goal
+
+abbrev pub invariant-loop-i : goal.invariant-loop-i
+invariant-loop-i l = (l.i ≤ length l.s) × (l.n ≤ l.i) × (l.n + count_of l.b (drop l.i l.s) ≡ count_of l.b l.s)
+
+abbrev pub decreases-loop-i : goal.decreases-loop-i
+decreases-loop-i l = length l.s - l.i
