@@ -1,4 +1,6 @@
 // What a C caller says and is told: values as words, the lent results, boards as flags, answers.
+#![tactic(auto)]
+
 ghost use Rattle.std.specs.Prelude.{◌≡◌, [], ◌∷◌, pos};
 ghost use Rattle.params.specs.Errors.{values_of, refusal};
 ghost use Rattle.results.specs.Results.{words, placed, Tells};
