@@ -1,6 +1,8 @@
 // The words that say a board on the command line, and the board that they make.
+#![tactic(auto)]
+
 ghost use Rattle.std.specs.Prelude.{◌≡◌};
-ghost use Rattle.board_words.specs.Boards.{board, plain as plainBoard, worded};
+ghost use Rattle.board_words.specs.Boards.{board, plain as plain_board, worded};
 ghost use Rattle.board_words.specs.Words.{word_of};
 
 use crate::words::{Word, board_word};
@@ -9,7 +11,7 @@ use sheets::Variant;
 
 pub mod words;
 
-#[derive(Drop)]
+#[derive(Clone, Copy)]
 pub enum Worded {
     Board(Board),
     Unknown,
@@ -17,7 +19,7 @@ pub enum Worded {
 
 // An SX1276 with nothing added.
 pub fn plain() -> Board
-    ensures { result ≡ plainBoard }
+    ensures { result ≡ plain_board }
 {
     Board {
         variant: Variant::Sx1276,

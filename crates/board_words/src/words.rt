@@ -5,7 +5,7 @@ ghost use Rattle.board_words.specs.Words.{word_of};
 
 use text::reading::same;
 
-#[derive(Drop)]
+#[derive(Clone, Copy)]
 pub enum Word {
     Sx1272,
     Sx1276,

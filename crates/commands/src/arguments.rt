@@ -1,8 +1,8 @@
 // Arguments: whether a text has an operation's, and what they are.
 ghost use Rattle.std.specs.Prelude.{◌≡◌, ◌≤◌};
 ghost use Rattle.text.specs.Decimal.{number_of, signed_of};
-ghost use Rattle.commands.specs.Operations.{kinds as kindsOf, byte as byteMost, word as wordMost, hertz as hertzMost, count as countMost};
-ghost use Rattle.commands.specs.Arguments.{is_number, is_signed, of_kind, misfit_from, fit as fitOf, argument, signed_argument};
+ghost use Rattle.commands.specs.Operations.{kinds as kinds_of, byte as byte_most, word as word_most, hertz as hertz_most, count as count_most};
+ghost use Rattle.commands.specs.Arguments.{is_number, is_signed, of_kind, misfit_from, fit as fit_of, argument, signed_argument};
 
 use crate::Operation;
 use crate::signatures::{BYTE, COUNT, HERTZ, POWER, WORD, argument_count, argument_most};
@@ -43,7 +43,7 @@ pub fn of_kind(most: u64, s: &[u8]) -> bool
 // The first argument that is not what it may be, or their count. They stand from field `first` on.
 pub fn misfit(o: Operation, s: &[u8], parting: u8, first: usize) -> usize
     requires { first ≤ 1 }
-    ensures { (result ≡ misfit_from parting first s.now 0 (kindsOf o)) × (result ≤ 10) }
+    ensures { (result ≡ misfit_from parting first s.now 0 (kinds_of o)) × (result ≤ 10) }
 {
     let n = argument_count(o);
     let mut i = 0;
@@ -59,7 +59,7 @@ pub fn misfit(o: Operation, s: &[u8], parting: u8, first: usize) -> usize
 
 // The text has the operation's arguments, parted by spaces.
 pub fn arguments_fit(o: Operation, s: &[u8]) -> bool
-    ensures { result ≡ fitOf (kindsOf o) s.now }
+    ensures { result ≡ fit_of (kinds_of o) s.now }
 {
     let n = argument_count(o);
     if n == 0 {
@@ -83,25 +83,25 @@ fn number(s: &[u8], parting: u8, i: usize, most: u64) -> u64
 }
 
 pub fn byte(s: &[u8], parting: u8, i: usize) -> u8
-    ensures { result ≡ argument byteMost parting s.now i }
+    ensures { result ≡ argument byte_most parting s.now i }
 {
     number(s, parting, i, BYTE) as u8
 }
 
 pub fn word(s: &[u8], parting: u8, i: usize) -> u16
-    ensures { result ≡ argument wordMost parting s.now i }
+    ensures { result ≡ argument word_most parting s.now i }
 {
     number(s, parting, i, WORD) as u16
 }
 
 pub fn hertz(s: &[u8], parting: u8, i: usize) -> u32
-    ensures { result ≡ argument hertzMost parting s.now i }
+    ensures { result ≡ argument hertz_most parting s.now i }
 {
     number(s, parting, i, HERTZ) as u32
 }
 
 pub fn count(s: &[u8], parting: u8, i: usize) -> usize
-    ensures { result ≡ argument countMost parting s.now i }
+    ensures { result ≡ argument count_most parting s.now i }
 {
     number(s, parting, i, COUNT) as usize
 }

@@ -1,4 +1,6 @@
 // The operations by their names, and the arguments that each takes.
+#![tactic(auto)]
+
 ghost use Rattle.std.specs.Prelude.{◌≡◌, ◌<◌, get_or};
 ghost use Rattle.commands.specs.Operations.{found_from, operations, operation_of};
 
@@ -8,7 +10,7 @@ pub mod arguments;
 pub mod parameters;
 pub mod signatures;
 
-#[derive(Drop)]
+#[derive(Clone, Copy)]
 pub enum Operation {
     InitLora,
     CreateModulationParams,
@@ -37,7 +39,7 @@ pub enum Operation {
     ReadHex,
 }
 
-#[derive(Drop)]
+#[derive(Clone, Copy)]
 pub enum Named {
     Known(Operation),
     Unknown,

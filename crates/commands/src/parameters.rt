@@ -1,6 +1,6 @@
 // Records that arguments say: a modulation, a packet's settings, a link.
 ghost use Rattle.std.specs.Prelude.{◌≡◌};
-ghost use Rattle.commands.specs.Records.{modulation as modulationSaid, packet as packetSaid, link as linkSaid};
+ghost use Rattle.commands.specs.Records.{modulation as modulation_said, packet as packet_said, link as link_said};
 
 use crate::arguments::{byte, hertz, power, word};
 use params::mod_params::{Link, ModulationParams, PacketParams};
@@ -8,7 +8,7 @@ use params::units::Hertz;
 
 // No argument says a frequency: the call that takes the record does not look at it.
 pub fn modulation(args: &[u8], parting: u8) -> ModulationParams
-    ensures { result ≡ modulationSaid parting args.now }
+    ensures { result ≡ modulation_said parting args.now }
 {
     ModulationParams {
         spreading_factor: byte(args, parting, 0),
@@ -20,7 +20,7 @@ pub fn modulation(args: &[u8], parting: u8) -> ModulationParams
 }
 
 pub fn packet(args: &[u8], parting: u8) -> PacketParams
-    ensures { result ≡ packetSaid parting args.now }
+    ensures { result ≡ packet_said parting args.now }
 {
     PacketParams {
         preamble_length: word(args, parting, 0),
@@ -32,7 +32,7 @@ pub fn packet(args: &[u8], parting: u8) -> PacketParams
 }
 
 pub fn link(args: &[u8], parting: u8) -> Link
-    ensures { result ≡ linkSaid parting args.now }
+    ensures { result ≡ link_said parting args.now }
 {
     Link {
         public_network: byte(args, parting, 0),

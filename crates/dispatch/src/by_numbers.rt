@@ -6,7 +6,7 @@ ghost use Rattle.operations.specs.Setup.{set_bases};
 ghost use Rattle.operations.specs.Power.{set_power};
 ghost use Rattle.operations.specs.Modes.{do_rx};
 ghost use Rattle.operations.specs.Interrupts.{set_irq, process_irq};
-ghost use Rattle.commands.specs.Operations.{byte as byteMost, word as wordMost, count as countMost};
+ghost use Rattle.commands.specs.Operations.{byte as byte_most, word as word_most, count as count_most};
 ghost use Rattle.commands.specs.Arguments.{argument, signed_argument};
 
 use commands::arguments::{byte, count, power, word};
@@ -20,7 +20,7 @@ pub(crate) fn set_bases(
     log: &mut [u8],
     used: usize,
 ) -> Answer
-    ensures { Meets (set_bases (argument countMost parting args.now 0) (argument countMost parting args.now 1) image.old log.old used) (tells_done result) (used_done result) image.new [] log.new [] }
+    ensures { Meets (set_bases (argument count_most parting args.now 0) (argument count_most parting args.now 1) image.old log.old used) (tells_done result) (used_done result) image.new [] log.new [] }
 {
     let tx = count(args, parting, 0);
     let rx = count(args, parting, 1);
@@ -35,7 +35,7 @@ pub(crate) fn set_power(
     log: &mut [u8],
     used: usize,
 ) -> Answer
-    ensures { Meets (set_power board (signed_argument parting args.now 0) (argument byteMost parting args.now 1) image.old log.old used) (tells_done result) (used_done result) image.new [] log.new [] }
+    ensures { Meets (set_power board (signed_argument parting args.now 0) (argument byte_most parting args.now 1) image.old log.old used) (tells_done result) (used_done result) image.new [] log.new [] }
 {
     let dbm = power(args, parting, 0);
     let is_tx_prep = byte(args, parting, 1);
@@ -50,7 +50,7 @@ pub(crate) fn do_rx(
     log: &mut [u8],
     used: usize,
 ) -> Answer
-    ensures { Meets (do_rx rx_boost (argument byteMost parting args.now 0) (argument wordMost parting args.now 1) image.old log.old used) (tells_done result) (used_done result) image.new [] log.new [] }
+    ensures { Meets (do_rx rx_boost (argument byte_most parting args.now 0) (argument word_most parting args.now 1) image.old log.old used) (tells_done result) (used_done result) image.new [] log.new [] }
 {
     let rx_mode = byte(args, parting, 0);
     let n = word(args, parting, 1);
@@ -64,7 +64,7 @@ pub(crate) fn set_irq(
     log: &mut [u8],
     used: usize,
 ) -> Answer
-    ensures { Meets (set_irq (argument byteMost parting args.now 0) (argument byteMost parting args.now 1) image.old log.old used) (tells_done result) (used_done result) image.new [] log.new [] }
+    ensures { Meets (set_irq (argument byte_most parting args.now 0) (argument byte_most parting args.now 1) image.old log.old used) (tells_done result) (used_done result) image.new [] log.new [] }
 {
     let mode = byte(args, parting, 0);
     let rx_mode = byte(args, parting, 1);
@@ -72,7 +72,7 @@ pub(crate) fn set_irq(
 }
 
 pub fn event(args: &[u8], parting: u8, image: &mut [u8], log: &mut [u8], used: usize) -> IrqAnswer
-    ensures { Meets (process_irq (argument byteMost parting args.now 0) (argument byteMost parting args.now 1) (argument byteMost parting args.now 2) image.old log.old used) (tells_irq result) (used_irq result) image.new [] log.new [] }
+    ensures { Meets (process_irq (argument byte_most parting args.now 0) (argument byte_most parting args.now 1) (argument byte_most parting args.now 2) image.old log.old used) (tells_irq result) (used_irq result) image.new [] log.new [] }
 {
     let mode = byte(args, parting, 0);
     let rx_mode = byte(args, parting, 1);

@@ -2,7 +2,7 @@
 ghost use Rattle.std.specs.Prelude.{[]};
 ghost use Rattle.params.specs.Answers.{tells_done, used_done};
 ghost use Rattle.bus.specs.Call.{Meets};
-ghost use Rattle.dispatch.specs.Dispatch.{done as doneBy};
+ghost use Rattle.dispatch.specs.Dispatch.{done as done_by};
 
 use crate::by_numbers::{do_rx, set_bases, set_irq, set_power};
 use commands::arguments::{byte, hertz};
@@ -14,6 +14,7 @@ use sx127x::{
 };
 
 // An operation that answers otherwise changes nothing.
+#[tactic(auto, unfolding(crate::specs::Dispatch::done))]
 pub fn done(
     o: Operation,
     args: &[u8],
@@ -23,7 +24,7 @@ pub fn done(
     log: &mut [u8],
     used: usize,
 ) -> Answer
-    ensures { Meets (doneBy o parting args.now board image.old log.old used) (tells_done result) (used_done result) image.new [] log.new [] }
+    ensures { Meets (done_by o parting args.now board image.old log.old used) (tells_done result) (used_done result) image.new [] log.new [] }
 {
     let v = board.variant;
     match o {

@@ -1,4 +1,6 @@
 // The call that an operation's name and arguments ask. Arguments stand in a text, in the operation's order, parted by a byte.
+#![tactic(auto)]
+
 mod by_numbers;
 mod choice;
 mod created;

@@ -5,7 +5,7 @@ ghost use Rattle.dump.specs.Dump.{could_be_hex};
 
 use text::hex::{is_any_digit, worth};
 
-#[derive(Drop)]
+#[derive(Clone, Copy)]
 pub(crate) enum Kind {
     Digit(u8),
     Blank,
@@ -35,6 +35,7 @@ fn is_x(c: u8) -> bool
 }
 
 // A digit may have a small letter or a capital.
+#[tactic(auto, unfolding(crate::specs::Characters::kind_of))]
 pub(crate) fn kind_of(c: u8) -> Kind
     ensures { result ≡ kind_of c }
 {

@@ -5,10 +5,11 @@ ghost use Rattle.dump.specs.Text.{on_digit, on_blank, on_x, step_at, next as nex
 
 use crate::characters::{Kind, kind_of};
 use params::hex_faults::HexFault;
+use text::bytes::copy;
 
 // What an input holds: an image, another number of bytes than 128, a place where a digit is missing or a character is bad, or a
 // line of records that is bad.
-#[derive(Drop)]
+#[derive(Clone, Copy)]
 pub enum Read {
     Image,
     Bytes(usize),
@@ -18,7 +19,7 @@ pub enum Read {
 }
 
 // Between bytes, behind a first 0, behind 0x, or behind a first digit.
-#[derive(Drop)]
+#[derive(Clone, Copy)]
 pub(crate) enum State {
     Between,
     Zero,
@@ -27,7 +28,7 @@ pub(crate) enum State {
 }
 
 // What a character does: it leads on, ends a byte, or is wrong here.
-#[derive(Drop)]
+#[derive(Clone, Copy)]
 pub(crate) enum Step {
     To(State),
     Byte(u8),
@@ -113,7 +114,7 @@ fn finish(state: State, at: usize, n: usize, bytes: &[u8], image: &mut [u8]) -> 
     match state {
         State::Between => {
             if n == 128 {
-                bytes::copy(bytes, image);
+                copy(bytes, image);
                 return Read::Image;
             }
             Read::Bytes(n)

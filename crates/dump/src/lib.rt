@@ -1,10 +1,13 @@
 // A pack's registers from Intel HEX, raw bytes or hex text, and what is wrong with an input.
+#![tactic(auto)]
+
 ghost use Rattle.std.specs.Prelude.{◌≡◌, length};
 ghost use Rattle.dump.specs.Dump.{is_raw, read_of, left_of};
 
 use characters::could_be_hex;
 use hex_text::read_text;
 use records::{is_records, read_records};
+use text::bytes::copy;
 
 mod characters;
 pub mod faults;
@@ -15,6 +18,7 @@ pub mod refusals;
 pub use hex_text::Read;
 
 // Raw bytes, and not hex text that happens to be of 128 characters.
+#[tactic(auto, using(text::proofs::reading::Tests::fails), unfolding(crate::specs::Dump::is_raw))]
 fn is_raw(input: &[u8]) -> bool
     ensures { result ≡ is_raw input.now }
 {
@@ -40,7 +44,7 @@ pub fn read(input: &[u8], image: &mut [u8]) -> Read
         return read_records(input, image);
     }
     if is_raw(input) {
-        bytes::copy(input, image);
+        copy(input, image);
         return Read::Image;
     }
     read_text(input, image)

@@ -25,6 +25,7 @@ fn all_in_records(input: &[u8]) -> bool
 }
 
 // Only 128 bytes are looked at whole: they may be a raw image whose first register holds a colon.
+#[tactic(auto, using(text::proofs::reading::Tests::past), unfolding(crate::specs::Dump::is_records))]
 pub(crate) fn is_records(input: &[u8]) -> bool
     ensures { result ≡ is_records input.now }
 {

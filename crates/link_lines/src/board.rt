@@ -7,7 +7,7 @@ use sheets::Variant;
 use text::printing::put;
 
 // What is known of a board's oscillator.
-#[derive(Drop)]
+#[derive(Clone, Copy)]
 pub enum Oscillator {
     Crystal,
     Tcxo,

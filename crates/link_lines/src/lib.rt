@@ -1,4 +1,6 @@
 // A link as a person wants it: a line for each setting.
+#![tactic(auto)]
+
 ghost use Rattle.std.specs.Prelude.{◌++◌, ◌+◌, ◌≤◌, length};
 ghost use Rattle.text.specs.Text.{Appended};
 ghost use Rattle.link_lines.specs.FrequencyLines.{frequency_line};

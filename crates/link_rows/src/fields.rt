@@ -1,7 +1,7 @@
 // The fields of a row, a tab and a number each, and those of a board.
 ghost use Rattle.std.specs.Prelude.{◌≡◌, ◌+◌, ◌≤◌, length};
 ghost use Rattle.text.specs.Text.{Appended};
-ghost use Rattle.link_rows.specs.Fields.{field, four_fields, chip as chipOf, bit as bit_of, board_fields};
+ghost use Rattle.link_rows.specs.Fields.{field, four_fields, chip as chip_of, bit as bit_of, board_fields};
 
 use link_lines::numerals::put_counted;
 use params::board::Board;
@@ -27,7 +27,7 @@ pub fn put_four(a: u64, b: u64, c: u64, d: u64, out: &mut [u8], at: usize) -> us
 }
 
 fn chip(variant: Variant) -> u64
-    ensures { result ≡ chipOf variant }
+    ensures { result ≡ chip_of variant }
 {
     match variant {
         Variant::Sx1272 => 1272,

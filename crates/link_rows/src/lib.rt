@@ -1,4 +1,6 @@
 // A link as a row of a table: numbers alone, with a tab before each; and the register that rules a link out.
+#![tactic(auto)]
+
 ghost use Rattle.std.specs.Prelude.{◌+◌, ◌≤◌, length};
 ghost use Rattle.text.specs.Text.{Appended};
 ghost use Rattle.link_rows.specs.Rows.{modem_fields, packet_fields, last_fields, link_fields};

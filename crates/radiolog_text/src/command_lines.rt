@@ -13,7 +13,7 @@ use text::reading::{field, same};
 const TAB: u8 = b'\t';
 
 // A number is told by its largest value.
-#[derive(Drop)]
+#[derive(Clone, Copy)]
 pub enum Expected {
     Command,
     Number(u64),
@@ -21,7 +21,7 @@ pub enum Expected {
     Nothing,
 }
 
-#[derive(Drop)]
+#[derive(Clone, Copy)]
 pub enum Flaw {
     Clear,
     Wrong(usize, Expected),
@@ -57,6 +57,7 @@ fn is_send(w: &[u8]) -> bool
 }
 
 // Nothing may stand behind n arguments.
+#[tactic(auto, unfolding(crate::specs::CommandLines::surplus_flaw))]
 fn surplus_flaw(line: &[u8], n: usize) -> Flaw
     requires { n ≤ 10 }
     ensures { result ≡ surplus_flaw n line.now }
@@ -68,6 +69,7 @@ fn surplus_flaw(line: &[u8], n: usize) -> Flaw
     }
 }
 
+#[tactic(auto, unfolding(crate::specs::CommandLines::bytes_flaw))]
 fn bytes_flaw(line: &[u8]) -> Flaw
     ensures { result ≡ bytes_flaw line.now }
 {
@@ -78,6 +80,7 @@ fn bytes_flaw(line: &[u8]) -> Flaw
     }
 }
 
+#[tactic(auto, unfolding(crate::specs::CommandLines::numbers_flaw))]
 fn numbers_flaw(o: Operation, line: &[u8]) -> Flaw
     ensures { result ≡ numbers_flaw o line.now }
 {
@@ -89,6 +92,7 @@ fn numbers_flaw(o: Operation, line: &[u8]) -> Flaw
     }
 }
 
+#[tactic(auto, unfolding(crate::specs::CommandLines::flaw_of))]
 pub fn judged(line: &[u8]) -> Flaw
     ensures { result ≡ flaw_of line.now }
 {

@@ -1,4 +1,6 @@
 // radiolog's text: commands in, records out.
+#![tactic(auto)]
+
 pub mod command_lines;
 pub mod command_words;
 pub mod faults;

@@ -1,4 +1,6 @@
 // The text of an outcome.
+#![tactic(auto)]
+
 ghost use Rattle.std.specs.Prelude.{◌+◌, ◌*◌, ◌≤◌, [], ◌∷◌, length};
 ghost use Rattle.params.specs.Errors.{plain, refusal};
 ghost use Rattle.text.specs.Text.{Appended};

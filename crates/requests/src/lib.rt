@@ -1,4 +1,6 @@
 // Whether a line is a call: what is wrong with it, and that in words.
+#![tactic(auto)]
+
 ghost use Rattle.std.specs.Prelude.{◌≡◌};
 ghost use Rattle.requests.specs.Flaws.{or_else, checked, is_either, is_lent, flag_flaw, bytes_flaw, buffer_flaw, head_flaw, asked_flaw, lent_flaw, used_flaw, flaw_of};
 
@@ -15,7 +17,7 @@ const TAB: u8 = b'\t';
 const MOST_USED: u64 = 18446744073709551615;
 
 // A field is told by its number, counted from 1.
-#[derive(Drop)]
+#[derive(Clone, Copy)]
 pub enum Fault {
     LongLine,
     FieldCount,
@@ -28,7 +30,7 @@ pub enum Fault {
     Used,
 }
 
-#[derive(Drop)]
+#[derive(Clone, Copy)]
 pub enum Flaw {
     Clear,
     Wrong(Fault),
@@ -78,6 +80,7 @@ fn is_lent(s: &[u8], digits: usize) -> bool
 }
 
 // A flag in field k + 1.
+#[tactic(auto, unfolding(crate::specs::Flaws::flag_flaw))]
 fn flag_flaw(line: &[u8], k: usize, number: u8) -> Flaw
     ensures { result ≡ flag_flaw k number line.now }
 {
@@ -86,6 +89,7 @@ fn flag_flaw(line: &[u8], k: usize, number: u8) -> Flaw
 }
 
 // Fields 1 to 4: the board.
+#[tactic(auto, unfolding(crate::specs::Flaws::head_flaw))]
 fn head_flaw(line: &[u8]) -> Flaw
     ensures { result ≡ head_flaw line.now }
 {
@@ -98,6 +102,7 @@ fn head_flaw(line: &[u8]) -> Flaw
 }
 
 // Fields 5 and 6: the operation and its arguments.
+#[tactic(auto, unfolding(crate::specs::Flaws::asked_flaw))]
 fn asked_flaw(line: &[u8]) -> Flaw
     ensures { result ≡ asked_flaw line.now }
 {
@@ -108,6 +113,7 @@ fn asked_flaw(line: &[u8]) -> Flaw
 }
 
 // Bytes in field k + 1.
+#[tactic(auto, unfolding(crate::specs::Flaws::bytes_flaw))]
 fn bytes_flaw(line: &[u8], k: usize, number: u8) -> Flaw
     ensures { result ≡ bytes_flaw k number line.now }
 {
@@ -115,6 +121,7 @@ fn bytes_flaw(line: &[u8], k: usize, number: u8) -> Flaw
 }
 
 // A buffer may be longer than what else is lent: a text may stand in it.
+#[tactic(auto, unfolding(crate::specs::Flaws::buffer_flaw))]
 fn buffer_flaw(line: &[u8]) -> Flaw
     ensures { result ≡ buffer_flaw line.now }
 {
@@ -122,6 +129,7 @@ fn buffer_flaw(line: &[u8]) -> Flaw
 }
 
 // Fields 7 to 10: what is lent.
+#[tactic(auto, unfolding(crate::specs::Flaws::lent_flaw))]
 fn lent_flaw(line: &[u8]) -> Flaw
     ensures { result ≡ lent_flaw line.now }
 {
@@ -129,12 +137,14 @@ fn lent_flaw(line: &[u8]) -> Flaw
     bytes_flaw(line, 6, 7).or(bytes_flaw(line, 7, 8).or(last))
 }
 
+#[tactic(auto, unfolding(crate::specs::Flaws::used_flaw))]
 fn used_flaw(line: &[u8]) -> Flaw
     ensures { result ≡ used_flaw line.now }
 {
     check(is_number(field(line, TAB, 10), MOST_USED), Fault::Used)
 }
 
+#[tactic(auto, unfolding(crate::specs::Flaws::flaw_of))]
 pub fn judged(line: &[u8]) -> Flaw
     ensures { result ≡ flaw_of line.now }
 {

@@ -1,5 +1,4 @@
 -- What `read_hex` answers for an image of 128 bytes, as what an input holds.
--- Assumes nothing.
 use mathlib.Core.Path.{◌≡◌, refl}
 use mathlib.Core.List.{List}
 use Prim.Native.Nat.{ℕ}

@@ -1,11 +1,10 @@
 -- The table of names has each error's name at its number.
--- Assumes nothing.
 use mathlib.Core.Path.{◌≡◌, refl}
 use mathlib.Core.List.{List}
 use Prim.Native.Nat.{ℕ, ◌≤◌}
 use lib.Dec.{lit≤}
 use lib.ListN.{length}
-use Rattle.bytes.specs.Bytes.{index_of, index_after}
+use Rattle.text.specs.Bytes.{index_of}
 use Rattle.params.specs.declared.mod_params.RadioError.{RadioError}
 use Rattle.params.specs.declared.mod_params.RadioError.TheVariants.{SPI, Reset, RfSwitchRx, RfSwitchTx, Busy, Irq, DIO1, InvalidConfiguration, InvalidRadioMode, OpError, InvalidBaseAddress, PayloadSizeUnexpected, PayloadSizeMismatch, UnavailableSpreadingFactor, UnavailableBandwidth, InvalidBandwidthForFrequency, InvalidSF6ExplicitHeaderRequest, InvalidOutputPowerForFrequency, TransmitTimeout, ReceiveTimeout, DutyCycleUnsupported, RngUnsupported, FrequencyOutOfRange, LogFull, CarrierUnsupported, BadImage, NotALink, BadLine, BadHex, BadSum, WrongPlace, Incomplete, TextFull}
 use Rattle.params.specs.Errors.{number_of}
@@ -19,7 +18,7 @@ table =
     " SPI Reset RfSwitchRx RfSwitchTx Busy Irq DIO1 InvalidConfiguration InvalidRadioMode OpError InvalidBaseAddress PayloadSizeUnexpected PayloadSizeMismatch UnavailableSpreadingFactor UnavailableBandwidth InvalidBandwidthForFrequency InvalidSF6ExplicitHeaderRequest InvalidOutputPowerForFrequency TransmitTimeout ReceiveTimeout DutyCycleUnsupported RngUnsupported FrequencyOutOfRange LogFull CarrierUnsupported BadImage NotALink BadLine BadHex BadSum WrongPlace Incomplete         TextFull"
 
 pub at_number : (e : RadioError) → field_at 32 (number_of e) table ≡ name_of e
-unfolding index_of index_after
+unfolding index_of
 at_number SPI = refl
 at_number Reset = refl
 at_number RfSwitchRx = refl

@@ -1,10 +1,9 @@
 -- The table has the arguments of each operation at its row.
--- Assumes nothing.
 use mathlib.Core.Path.{◌≡◌, refl}
 use Prim.Native.Nat.{◌≤◌}
 use lib.Dec.{lit≤}
 use lib.ListN.{length}
-use Rattle.bytes.specs.Bytes.{index_of, index_after}
+use Rattle.text.specs.Bytes.{index_of}
 use Rattle.text.specs.Fields.{field_at}
 use Rattle.commands.specs.declared.Operation.{Operation}
 use Rattle.commands.specs.declared.Operation.TheVariants.{InitLora, CreateModulationParams, CreatePacketParams, Reset, SetStandby, SetSleep, SetTxRxBufferBaseAddress, SetTxPowerAndRampTime, SetModulationParams, SetPacketParams, SetChannel, SetPayload, DoTx, DoRx, GetRxPayload, GetRxPacketStatus, DoCad, SetIrqParams, ProcessIrqEvent, SetTxContinuousWaveMode, Program, ReadLink, Airtime, WriteHex, ReadHex}
@@ -13,7 +12,7 @@ use Rattle.commands.specs.Rows.{row}
 use Rattle.requests.specs.Faults.{table}
 
 pub at_row : (o : Operation) → field_at 9 (row o) table ≡ arguments o
-unfolding index_of index_after
+unfolding index_of
 at_row InitLora = refl
 at_row CreateModulationParams = refl
 at_row CreatePacketParams = refl
