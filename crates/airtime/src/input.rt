@@ -1,30 +1,27 @@
 // An input read to its end, piece after piece, so that memory does not grow with it.
+use desk::buffers;
 use params::answers::AirtimeAnswer;
+use std::io;
+use std::io::Read;
 use time_on_air::{feed, finish, start};
 
-// What the text comes to, or `errno` where it could not be read.
-#[derive(Drop)]
+// What the text comes to, or why it could not be read.
+#[derive(Clone, Copy)]
 pub enum Outcome {
     Answer(AirtimeAnswer),
-    Unread(i32),
+    Unread(io::Error),
 }
 
-// Nothing says that the input ends, so the turns are counted down, from a number that no run uses up.
-pub fn read_through(fd: i32, totals: &mut [u64; 10]) -> Outcome {
-    let mut buf = io::large_buffer();
+// Nothing says that the input ends, so the turns are counted, up to a number that no run uses up.
+pub fn read_through(from: &mut impl Read, totals: &mut [u64; 10]) -> Outcome {
+    let mut buf = buffers::large_buffer();
     let mut r = start();
-    let mut turns = u64::MAX;
-    while turns > 0 {
-        let got = libc::read(fd, &mut buf);
-        if got < 0 {
-            return Outcome::Unread(os::errno());
+    for _ in 0..u64::MAX {
+        match from.read(&mut buf) {
+            Ok(0) => break,
+            Ok(n) => r = feed(r, &buf[..n]),
+            Err(why) => return Outcome::Unread(why),
         }
-        let n = io::count(got, &buf);
-        if n == 0 {
-            break;
-        }
-        r = feed(r, &buf[..n]);
-        turns -= 1;
     }
     Outcome::Answer(finish(r, totals))
 }

@@ -1,70 +1,72 @@
 // What was found, beside what the bench says.
-use libc::STDOUT_FILENO;
+ghost use Rattle.std.specs.Prelude.{OnOk};
+ghost use Rattle.std.specs.Io.KnownBytes.{Appends};
+
 use replies::answers::wide;
+use std::io;
+use std::io::Write;
 use text::hex::Case;
 use text::printing::put_hex;
 use text::put_decimals::{put_decimal, put_signed};
 use text::reading;
 
-pub fn text(t: &[u8]) {
-    io::write_all(STDOUT_FILENO, t);
+pub fn text<W: Write>(to: &mut W, t: &[u8]) -> io::Result<()>
+    ensures { OnOk result (Appends (W.contents to.old) (W.contents to.new) t.now) }
+{
+    to.write_all(t)
 }
 
-fn byte(b: u8) {
+fn byte<W: Write>(to: &mut W, b: u8) -> io::Result<()> {
     let mut out = [0u8; 2];
     put_hex(&[b], Case::Upper, &mut out, 0);
-    text(b" ");
-    text(&out);
+    text(to, b" ")?;
+    text(to, &out)
 }
 
-fn hex(s: &[u8]) {
-    let mut i = 0;
-    while i < s.len() {
-        byte(s[i]);
-        i += 1;
+fn hex<W: Write>(to: &mut W, s: &[u8]) -> io::Result<()> {
+    for b in s {
+        byte(to, *b)?;
     }
+    Ok(())
 }
 
-fn decimal(n: u64) {
+fn decimal<W: Write>(to: &mut W, n: u64) -> io::Result<()> {
     let mut out = [0u8; 20];
     let k = put_decimal(n, &mut out, 0);
-    text(b" ");
-    text(&out[..k]);
+    text(to, b" ")?;
+    text(to, &out[..k])
 }
 
-fn number(n: i32) {
+fn number<W: Write>(to: &mut W, n: i32) -> io::Result<()> {
     let mut out = [0u8; 21];
     let k = put_signed(n, &mut out, 0);
-    text(b" ");
-    text(&out[..k]);
+    text(to, b" ")?;
+    text(to, &out[..k])
 }
 
-pub fn bytes(found: &[u8], wanted: &[u8]) {
-    hex(found);
+pub fn bytes<W: Write>(to: &mut W, found: &[u8], wanted: &[u8]) -> io::Result<()> {
+    hex(to, found)?;
     if reading::same(found, wanted) {
-        text(b" ok");
-    } else {
-        text(b" WRONG, wanted");
-        hex(wanted);
+        return text(to, b" ok");
     }
+    text(to, b" WRONG, wanted")?;
+    hex(to, wanted)
 }
 
-pub fn count(found: u64, wanted: u64) {
-    decimal(found);
+pub fn count<W: Write>(to: &mut W, found: u64, wanted: u64) -> io::Result<()> {
+    decimal(to, found)?;
     if found == wanted {
-        text(b" ok");
-    } else {
-        text(b" WRONG, wanted");
-        decimal(wanted);
+        return text(to, b" ok");
     }
+    text(to, b" WRONG, wanted")?;
+    decimal(to, wanted)
 }
 
-pub fn signed(found: i16, wanted: i16) {
-    number(wide(found));
+pub fn signed<W: Write>(to: &mut W, found: i16, wanted: i16) -> io::Result<()> {
+    number(to, wide(found))?;
     if found == wanted {
-        text(b" ok");
-    } else {
-        text(b" WRONG, wanted");
-        number(wide(wanted));
+        return text(to, b" ok");
     }
+    text(to, b" WRONG, wanted")?;
+    number(to, wide(wanted))
 }

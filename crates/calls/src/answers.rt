@@ -8,7 +8,7 @@ use params::answers::{
 use replies::{airtime_values, answers, hex_values, link_values, modulation_values, packet_values};
 
 // Where an answer's text ends, and the bytes of the log that are used.
-#[derive(Drop)]
+#[derive(Clone, Copy)]
 pub struct Told {
     pub at: usize,
     pub used: usize,

@@ -1,6 +1,6 @@
 // A call that a line asks: it is done over what the line lends, and its outcome is put into a lent place.
 ghost use Rattle.std.specs.Prelude.{◌≤◌, length};
-ghost use Rattle.io.specs.Counts.{IsPrefixLen};
+ghost use Rattle.std.specs.Counts.{IsPrefixLen};
 
 use crate::answers;
 use crate::answers::Told;

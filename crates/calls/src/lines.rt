@@ -3,13 +3,16 @@ ghost use Rattle.std.specs.Prelude.{◌+◌, ◌≤◌, length};
 ghost use Rattle.calls.specs.Lines.{Short};
 
 use crate::call::answer;
-use bytes::scan::find;
-use libc::{STDIN_FILENO, STDOUT_FILENO};
+use desk::buffers;
+use desk::files::write_out;
+use desk::streams::Streams;
+use std::io::{Read, Write};
+use text::bytes::find;
 
 const LONGEST: usize = 16384;
 
 // How far the lines of what was read were answered, and whether the rest belongs to a line that was answered already.
-#[derive(Drop)]
+#[derive(Clone, Copy)]
 struct Passed {
     to: usize,
     skipping: bool,
@@ -17,24 +20,20 @@ struct Passed {
 }
 
 // What goes on to the next read: the bytes kept, and whether a line is being skipped.
-#[derive(Drop)]
+#[derive(Clone, Copy)]
 enum Turn {
     More(usize, bool),
     End,
 }
 
-fn write_answer(line: &[u8]) -> bool {
+fn write_answer(streams: &mut Streams<impl Write, impl Write>, line: &[u8]) -> bool {
     let mut out = [0u8; 14596];
     let n = answer(line, &mut out);
-    let written = io::write_all(STDOUT_FILENO, &out[..n]);
-    if !written {
-        os::fail(b"calls: standard output");
-    }
-    written
+    write_out(streams, &out[..n], b"calls: standard output")
 }
 
 // Answers each whole line of what was read.
-fn answer_lines(text: &[u8], skip: bool) -> Passed
+fn answer_lines(streams: &mut Streams<impl Write, impl Write>, text: &[u8], skip: bool) -> Passed
     ensures { result.to ≤ length text.now }
 {
     let mut to = 0;
@@ -48,7 +47,7 @@ fn answer_lines(text: &[u8], skip: bool) -> Passed
         if skipping {
             skipping = false;
         } else {
-            written = write_answer(&text[to..end]);
+            written = write_answer(streams, &text[to..end]);
         }
         if !written {
             break;
@@ -74,7 +73,12 @@ fn shift(buf: &mut [u8], from: usize, count: usize)
 }
 
 // A part of a line that is longer than any call is answered as the line, and what follows of it skipped.
-fn keep(buf: &mut [u8], all: usize, p: Passed) -> Turn
+fn keep(
+    streams: &mut Streams<impl Write, impl Write>,
+    buf: &mut [u8],
+    all: usize,
+    p: Passed,
+) -> Turn
     requires { (p.to ≤ all) × (all ≤ length buf.old) }
     ensures { Short result }
 {
@@ -87,7 +91,7 @@ fn keep(buf: &mut [u8], all: usize, p: Passed) -> Turn
         return Turn::More(0, true);
     }
     if left > LONGEST {
-        if write_answer(&buf[to..all]) {
+        if write_answer(streams, &buf[to..all]) {
             return Turn::More(0, true);
         }
         return Turn::End;
@@ -96,41 +100,46 @@ fn keep(buf: &mut [u8], all: usize, p: Passed) -> Turn
     Turn::More(left, false)
 }
 
-fn read_more(buf: &mut [u8], kept: usize, skipping: bool) -> Turn
+fn read_more(
+    from: &mut impl Read,
+    streams: &mut Streams<impl Write, impl Write>,
+    buf: &mut [u8],
+    kept: usize,
+    skipping: bool,
+) -> Turn
     requires { (kept ≤ 16384) × (65536 ≤ length buf.old) }
     ensures { Short result }
 {
-    let got = libc::read(STDIN_FILENO, &mut buf[kept..]);
-    if got < 0 {
-        os::fail(b"calls: standard input");
-        return Turn::End;
-    }
-    let more = io::count(got, &buf[kept..]);
+    let more = match from.read(&mut buf[kept..]) {
+        Ok(n) => n,
+        Err(why) => {
+            streams.fail(b"calls: standard input", why);
+            return Turn::End;
+        }
+    };
     let all = kept + more;
     if more == 0 {
         if kept > 0 {
-            write_answer(&buf[..kept]);
+            write_answer(streams, &buf[..kept]);
         }
         return Turn::End;
     }
-    let p = answer_lines(&buf[..all], skipping);
-    keep(buf, all, p)
+    let p = answer_lines(streams, &buf[..all], skipping);
+    keep(streams, buf, all, p)
 }
 
-// Nothing says that the input ends, so the turns are counted down, from a number that no run uses up.
-pub fn answer_input() {
-    let mut buf = io::large_buffer();
+// Nothing says that the input ends, so the turns are counted, up to a number that no run uses up.
+pub fn answer_input(from: &mut impl Read, streams: &mut Streams<impl Write, impl Write>) {
+    let mut buf = buffers::large_buffer();
     let mut kept = 0;
     let mut skipping = false;
-    let mut turns = u64::MAX;
-    while turns > 0 {
-        match read_more(&mut buf, kept, skipping) {
+    for _ in 0..u64::MAX {
+        match read_more(from, streams, &mut buf, kept, skipping) {
             Turn::End => return,
             Turn::More(n, s) => {
                 kept = n;
                 skipping = s;
             }
         }
-        turns -= 1;
     }
 }

@@ -1,5 +1,4 @@
 -- The starred figures are what the definitions compute: one test over the whole table, and what it says of each row.
--- Assumes nothing.
 use mathlib.Core.Path.{◌≡◌, refl, ap₂}
 use mathlib.Core.Bool.{Bool, true, false, ◌&&◌}
 use mathlib.Core.List.{List, [], ◌∷◌}
@@ -15,7 +14,7 @@ use Rattle.bus.specs.Call.{admitted}
 use Rattle.page.specs.Page.{fits, read}
 use Rattle.page.specs.Links.{accepted}
 use Rattle.page.specs.Lora.{is, shown}
-use Rattle.figures.specs.Starred.{Row, starred}
+use Rattle.figures.specs.Starred.{Row, starred, Right}
 
 abbrev alike : List ℤ → List ℤ → Bool
 alike [] [] = true
@@ -32,11 +31,6 @@ alike→eq (x ∷ xs) (y ∷ ys) t = let p = both (sameℤ x y) (alike xs ys) t 
 abbrev holds : List Row → Bool
 holds [] = true
 holds (r ∷ rs) = alike r.computed r.bench && holds rs
-
--- every row's computed figures are the bench's
-abbrev pub Right : List Row → Type 0
-Right [] = Unit {0}
-Right (r ∷ rs) = (r.computed ≡ r.bench) × Right rs
 
 right : (rs : List Row) → T (holds rs) → Right rs
 right [] t = tt

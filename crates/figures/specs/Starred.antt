@@ -1,5 +1,5 @@
 -- Document 01's starred bench figures: for each row what the definitions compute, and what the bench says.
-use Rattle.std.specs.Prelude.{Bool, true, false, List, [], ◌∷◌, ◌++◌, ℕ, ℤ, pos, negsuc, get_or, replicate}
+use Rattle.std.specs.Prelude.{◌≡◌, Bool, true, false, List, [], ◌∷◌, ◌++◌, ℕ, ℤ, pos, negsuc, get_or, replicate}
 use Rattle.sheets.specs.declared.Variant.TheVariants.{Sx1272, Sx1276}
 use Rattle.sheets.specs.Frequency.{steps, held, frf_msb, frf_mid, frf_lsb, read_back}
 use Rattle.sheets.specs.Signal.{snr, offset, rssi}
@@ -17,6 +17,11 @@ pub record Row : Type 0 where
 
 abbrev pub row : List ℤ → List ℤ → Row
 row c b = record { computed = c; bench = b }
+
+-- every row's computed figures are the bench's
+abbrev pub Right : List Row → Type 0
+Right [] = Unit {0}
+Right (r ∷ rs) = (r.computed ≡ r.bench) × Right rs
 
 -- ---- what the columns mean
 

@@ -1,10 +1,13 @@
 // What the command line asks: write or read, and a file.
-use desk::options;
 use desk::options::{Options, is_option};
+use desk::streams::Streams;
+use desk::{arguments, buffers, options};
+use std::env::Env;
+use std::io::Write;
 use text::reading::same;
 
 // The file is the place of the word that names it, 0 where none does. Of the options help and wrong are used.
-#[derive(Drop)]
+#[derive(Clone, Copy)]
 pub struct Asked {
     pub write: bool,
     pub read: bool,
@@ -18,35 +21,50 @@ fn with_options(asked: Asked, o: Options) -> Asked {
     a
 }
 
-fn wrong(asked: Asked, what: &[u8], text: &[u8]) -> Asked {
+fn wrong(
+    streams: &mut Streams<impl Write, impl Write>,
+    asked: Asked,
+    what: &[u8],
+    text: &[u8],
+) -> Asked {
     let o = asked.options;
-    with_options(asked, options::wrong(o, b"ihex", what, text))
+    with_options(asked, options::wrong(streams, o, b"ihex", what, text))
 }
 
-fn with_option(asked: Asked, word: &[u8]) -> Asked {
+fn with_option(streams: &mut Streams<impl Write, impl Write>, asked: Asked, word: &[u8]) -> Asked {
     if !same(word, b"-h") {
-        return wrong(asked, word, b" is no option\n");
+        return wrong(streams, asked, word, b" is no option\n");
     }
     let mut o = asked.options;
     o.help = true;
     with_options(asked, o)
 }
 
-fn with_verb(asked: Asked, word: &[u8]) -> Asked {
+fn with_verb(streams: &mut Streams<impl Write, impl Write>, asked: Asked, word: &[u8]) -> Asked {
     let mut a = asked;
     if same(word, b"write") {
         a.write = true;
     } else if same(word, b"read") {
         a.read = true;
     } else {
-        return wrong(a, word, b" is neither write nor read\n");
+        return wrong(streams, a, word, b" is neither write nor read\n");
     }
     a
 }
 
-fn with_file(asked: Asked, word: &[u8], i: usize) -> Asked {
+fn with_file(
+    streams: &mut Streams<impl Write, impl Write>,
+    asked: Asked,
+    word: &[u8],
+    i: usize,
+) -> Asked {
     if asked.file != 0 {
-        return wrong(asked, word, b" is a second FILE, and one is taken\n");
+        return wrong(
+            streams,
+            asked,
+            word,
+            b" is a second FILE, and one is taken\n",
+        );
     }
     let mut a = asked;
     a.file = i;
@@ -54,36 +72,47 @@ fn with_file(asked: Asked, word: &[u8], i: usize) -> Asked {
 }
 
 // The first word that is no option says what to do, and the second names a file.
-fn with_word(asked: Asked, word: &[u8], i: usize) -> Asked {
+fn with_word(
+    streams: &mut Streams<impl Write, impl Write>,
+    asked: Asked,
+    word: &[u8],
+    i: usize,
+) -> Asked {
     if is_option(word) {
-        return with_option(asked, word);
+        return with_option(streams, asked, word);
     }
     if asked.write || asked.read {
-        return with_file(asked, word, i);
+        return with_file(streams, asked, word, i);
     }
-    with_verb(asked, word)
+    with_verb(streams, asked, word)
 }
 
-fn with_argument(asked: Asked, i: usize) -> Asked {
-    let mut word = io::buffer();
-    let n = os::arg(i, &mut word);
-    if os::errno() == 0 {
-        return with_word(asked, &word[..n], i);
+fn with_argument(
+    rt: &impl Env,
+    streams: &mut Streams<impl Write, impl Write>,
+    asked: Asked,
+    i: usize,
+) -> Asked {
+    let mut place = buffers::buffer();
+    match arguments::word(rt, i, &mut place) {
+        Some(word) => with_word(streams, asked, word, i),
+        None => {
+            let o = asked.options;
+            with_options(asked, options::too_long(streams, o, b"ihex"))
+        }
     }
-    let o = asked.options;
-    with_options(asked, options::too_long(o, b"ihex"))
 }
 
-fn settled(a: Asked) -> Asked {
+fn settled(streams: &mut Streams<impl Write, impl Write>, a: Asked) -> Asked {
     if a.write || a.read {
         return a;
     }
-    wrong(a, b"say write or read", b"\n")
+    wrong(streams, a, b"say write or read", b"\n")
 }
 
 // The words are looked at in turn, up to one that is wrong or asks for help.
-pub fn all_words() -> Asked {
-    let count = os::arg_count();
+pub fn all_words(rt: &impl Env, streams: &mut Streams<impl Write, impl Write>) -> Asked {
+    let count = arguments::count(rt);
     let none = options::none();
     let mut a = Asked {
         write: false,
@@ -91,13 +120,11 @@ pub fn all_words() -> Asked {
         file: 0,
         options: none,
     };
-    let mut i = 1;
-    while i < count {
-        a = with_argument(a, i);
+    for i in 1..count {
+        a = with_argument(rt, streams, a, i);
         if a.options.help || a.options.wrong {
             return a;
         }
-        i += 1;
     }
-    settled(a)
+    settled(streams, a)
 }

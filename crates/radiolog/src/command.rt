@@ -2,11 +2,11 @@
 ghost use Rattle.std.specs.Prelude.{◌≤◌, length};
 
 use crate::answers;
-use bytes::scan::find;
 use commands::{Named, Operation};
 use params::answers::Answer;
 use params::board::Board;
 use radiolog_text::command_words::command_named;
+use text::bytes::find;
 use text::hex;
 use text::hex::{Bytes, Case};
 use text::reading::field;
