@@ -54,7 +54,7 @@ typedef char sx127x_a_pointer_has_32_or_64_bits[sizeof(void *) == 4 || sizeof(vo
 typedef char sx127x_a_pointer_is_an_address[sizeof(void *) == sizeof(uintptr_t) ? 1 : -1];
 
 #if defined(__x86_64__) || defined(_M_X64)
-/* `rt staticlib` compiles for Linux: x32 has shorter pointers, Windows other registers for them. */
+/* `rt lib` compiles for Linux: x32 has shorter pointers, Windows other registers for them. */
 typedef char sx127x_x86_64_pointer_has_64_bits[sizeof(void *) == 8 ? 1 : -1];
 #ifdef _WIN32
 #error "libexports.a for x86-64 takes its arguments as Linux passes them, and Windows passes them otherwise"

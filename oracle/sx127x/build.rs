@@ -2,14 +2,14 @@
 use std::path::{Path, PathBuf};
 use std::{env, process};
 
-/// `rt staticlib` writes for x86-64; on another processor there is only the archive that is made for trying.
+/// `rt lib` in crates/exports writes for x86-64; on another processor there is only the archive that is made for trying.
 fn archive() -> PathBuf {
     let repository = Path::new(&env::var_os("CARGO_MANIFEST_DIR").unwrap()).join("../..");
     match env::var_os("SX127X_ARCHIVE") {
         // A relative path is meant from where cargo was called, and not from this crate.
         Some(named) => env::var_os("PWD").map_or(PathBuf::new(), PathBuf::from).join(named),
         None if env::var("CARGO_CFG_TARGET_ARCH").unwrap() == "x86_64" => {
-            repository.join("target/staticlib/libexports.a")
+            repository.join("crates/exports/out/libexports.a")
         }
         None => repository.join("target/native/libexports.a"),
     }
