@@ -1,9 +1,7 @@
 -- Document 01's and 02's number and values for each error, and which of two verdicts comes first.
-use Rattle.std.specs.Prelude.{List, [], ◌∷◌, ℕ, ℤ, pos}
+use Rattle.std.specs.Prelude.{List, [], ◌∷◌, ℕ, ℤ, pos, ⊤, Result, Ok, Err}
 use Rattle.params.specs.declared.mod_params.RadioError.{RadioError}
 use Rattle.params.specs.declared.mod_params.RadioError.TheVariants.{SPI, Reset, RfSwitchRx, RfSwitchTx, Busy, Irq, DIO1, InvalidConfiguration, InvalidRadioMode, OpError, InvalidBaseAddress, PayloadSizeUnexpected, PayloadSizeMismatch, UnavailableSpreadingFactor, UnavailableBandwidth, InvalidBandwidthForFrequency, InvalidSF6ExplicitHeaderRequest, InvalidOutputPowerForFrequency, TransmitTimeout, ReceiveTimeout, DutyCycleUnsupported, RngUnsupported, FrequencyOutOfRange, LogFull, CarrierUnsupported, BadImage, NotALink, BadLine, BadHex, BadSum, WrongPlace, Incomplete, TextFull}
-use Rattle.params.specs.declared.mod_params.Verdict.{Verdict}
-use Rattle.params.specs.declared.mod_params.Verdict.TheVariants.{Clear, Refused}
 
 -- An answer as document 01 has it: 0, or the refusal's number, and the values that go with it.
 pub record Told : Type 0 where
@@ -92,7 +90,11 @@ values_of TextFull = []
 abbrev pub refusal : RadioError → Told
 refusal e = told (number_of e) (values_of e)
 
+-- Whether a call goes on.
+abbrev pub Verdict : Type 0
+Verdict = Result ⊤ RadioError
+
 -- the first of two verdicts that refuses
 abbrev pub or : Verdict → Verdict → Verdict
-or Clear next = next
-or (Refused e) next = Refused e
+or (Ok tt) next = next
+or (Err e) next = Err e

@@ -1,6 +1,8 @@
 -- The refusal that each fault of a text of Intel HEX gives (document 02, request [3]).
 use Rattle.params.specs.declared.mod_params.RadioError.{RadioError}
 use Rattle.params.specs.declared.mod_params.RadioError.TheVariants.{BadHex, BadSum, WrongPlace, Incomplete}
+use Rattle.params.specs.declared.answers.HexError.{HexError}
+use Rattle.params.specs.declared.answers.HexError.TheVariants.{Bad, Refused}
 use Rattle.params.specs.declared.hex_faults.HexFault.{HexFault}
 use Rattle.params.specs.declared.hex_faults.HexFault.TheVariants.{Open, Form, Count, Kind, EndHolds, After, Sum, Outside, Twice, NoEnd, Unset}
 
@@ -18,3 +20,8 @@ hex_error_of (Outside address) = WrongPlace
 hex_error_of (Twice address) = WrongPlace
 hex_error_of NoEnd = Incomplete
 hex_error_of (Unset address) = Incomplete
+
+-- why an image is not read: which record is bad is for people
+abbrev pub refusal_of : HexError → RadioError
+refusal_of (Bad f line) = hex_error_of f
+refusal_of (Refused e) = e

@@ -1,78 +1,51 @@
-// What calls answer. A call that appends to a log tells the bytes that are used afterwards, whatever its answer.
+// What calls tell besides a record or a number: an event, and why a file or a text is refused.
 use crate::hex_faults::HexFault;
 use crate::line_faults::LineFault;
-use crate::mod_params::{Link, ModulationParams, PacketParams, PacketStatus, RadioError};
+use crate::mod_params::RadioError;
 
-#[derive(Clone, Copy)]
-pub enum Answer {
-    Done(usize),
-    Refused(RadioError, usize),
+// `process_irq_event`: the Rust's `IrqState`; channel activity detection that is done tells whether it found activity.
+#[derive(Clone, Copy, PartialEq, Eq)]
+pub enum IrqState {
+    PreambleReceived,
+    Done,
+    CadDone(bool),
 }
 
-// `create_modulation_params`.
-#[derive(Clone, Copy)]
-pub enum ModulationAnswer {
-    Created(ModulationParams),
-    Refused(RadioError),
+// `airtime`: the first bad line of a file, with its number from 1.
+#[derive(Clone, Copy, PartialEq, Eq)]
+pub struct BadLine {
+    pub fault: LineFault,
+    pub line: u64,
 }
 
-// `create_packet_params`.
-#[derive(Clone, Copy)]
-pub enum PacketAnswer {
-    Created(PacketParams),
-    Refused(RadioError),
-}
-
-// `get_rx_payload`: the bytes received.
-#[derive(Clone, Copy)]
-pub enum PayloadAnswer {
-    Received(u8, usize),
-    Refused(RadioError, usize),
-}
-
-// `get_rx_packet_status`.
-#[derive(Clone, Copy)]
-pub enum StatusAnswer {
-    Measured(PacketStatus, usize),
-    Refused(RadioError, usize),
-}
-
-// `process_irq_event`: the Rust's `Option<IrqState>`; channel activity detection that is done tells whether it found activity.
-#[derive(Clone, Copy)]
-pub enum IrqAnswer {
-    Nothing(usize),
-    PreambleReceived(usize),
-    Done(usize),
-    CadDone(bool, usize),
-    Refused(RadioError, usize),
-}
-
-// The reader.
-#[derive(Clone, Copy)]
-pub enum LinkAnswer {
-    Found(Link),
-    Refused(RadioError),
-}
-
-// `airtime`: the totals stand in what was lent, or the first bad line, with its number from 1, is why they do not.
-#[derive(Clone, Copy)]
-pub enum AirtimeAnswer {
-    Totals,
-    BadLine(LineFault, u64),
-}
-
-// `write_hex`: the bytes of the text.
-#[derive(Clone, Copy)]
-pub enum WriteHexAnswer {
-    Written(usize),
-    Refused(RadioError),
-}
-
-// `read_hex`: the image stands in what was lent; or the first record that is bad, or what the text lacks, with its line from 1, is
-// why it does not; or no image was lent.
-#[derive(Clone, Copy)]
-pub enum ReadHexAnswer {
-    Read,
+// `read_hex`: the first record that is bad, or what the text lacks, with its line from 1; or no image was lent.
+#[derive(Clone, Copy, PartialEq, Eq)]
+pub enum HexError {
     Bad(HexFault, usize),
     Refused(RadioError),
+}
+
+impl From<BadLine> for RadioError {
+    ghost use Rattle.std.specs.Prelude.{◌≡◌};
+    ghost use Rattle.params.specs.LineFaults.{error_of};
+
+    ghost from_gives = { λ bad error. error ≡ error_of bad.fault };
+
+    fn from(bad: BadLine) -> RadioError {
+        bad.fault.into()
+    }
+}
+
+impl From<HexError> for RadioError {
+    ghost use Rattle.std.specs.Prelude.{◌≡◌};
+    ghost use Rattle.params.specs.HexFaults.{refusal_of};
+
+    ghost from_gives = { λ why error. error ≡ refusal_of why };
+
+    fn from(why: HexError) -> RadioError {
+        match why {
+            HexError::Bad(fault, _) => fault.into(),
+            HexError::Refused(error) => error,
+        }
+    }
 }

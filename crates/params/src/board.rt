@@ -1,7 +1,7 @@
 // Boards: a radio, and what stands around it.
 use sheets::Variant;
 
-#[derive(Clone, Copy)]
+#[derive(Clone, Copy, PartialEq, Eq)]
 pub struct Board {
     pub variant: Variant,
     pub tcxo_used: bool,

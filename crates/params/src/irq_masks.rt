@@ -3,7 +3,7 @@ ghost use Rattle.std.specs.Prelude.{◌≡◌};
 ghost use Rattle.sheets.specs.Interrupts.{raised};
 ghost use Rattle.params.specs.Flags.{flag_of, flag_mask};
 
-#[derive(Clone, Copy)]
+#[derive(Clone, Copy, PartialEq, Eq)]
 pub enum IrqMask {
     CADActivityDetected,
     CADDone,

@@ -1,11 +1,8 @@
 // What may be wrong with a line of a depot's file of sent packets, and the refusal that it gives.
-ghost use Rattle.std.specs.Prelude.{◌≡◌};
-ghost use Rattle.params.specs.LineFaults.{error_of};
-
 use crate::mod_params::RadioError;
 
 // A field is counted from 0: `Form` is of one that is missing or no number, and of 8, a ninth one.
-#[derive(Clone, Copy)]
+#[derive(Clone, Copy, PartialEq, Eq)]
 pub enum LineFault {
     Form(usize),
     Open,
@@ -22,24 +19,27 @@ pub enum LineFault {
     Sf6Explicit,
 }
 
-impl LineFault {
-    pub fn error(self) -> RadioError
-        ensures { result ≡ error_of self }
-    {
-        match self {
-            LineFault::SpreadingFactor => RadioError::InvalidConfiguration,
-            LineFault::Bandwidth => RadioError::InvalidConfiguration,
-            LineFault::CodingRate => RadioError::InvalidConfiguration,
-            LineFault::Header => RadioError::InvalidConfiguration,
-            LineFault::Crc => RadioError::InvalidConfiguration,
+impl From<LineFault> for RadioError {
+    ghost use Rattle.std.specs.Prelude.{◌≡◌};
+    ghost use Rattle.params.specs.LineFaults.{error_of};
+
+    ghost from_gives = { λ fault error. error ≡ error_of fault };
+
+    fn from(fault: LineFault) -> RadioError {
+        match fault {
+            LineFault::SpreadingFactor
+            | LineFault::Bandwidth
+            | LineFault::CodingRate
+            | LineFault::Header
+            | LineFault::Crc => RadioError::InvalidConfiguration,
             LineFault::Sf5 => RadioError::UnavailableSpreadingFactor,
             LineFault::Sf6Explicit => RadioError::InvalidSF6ExplicitHeaderRequest,
-            LineFault::Form(_) => RadioError::BadLine,
-            LineFault::Open => RadioError::BadLine,
-            LineFault::Late => RadioError::BadLine,
-            LineFault::Id => RadioError::BadLine,
-            LineFault::Preamble => RadioError::BadLine,
-            LineFault::Length => RadioError::BadLine,
+            LineFault::Form(_)
+            | LineFault::Open
+            | LineFault::Late
+            | LineFault::Id
+            | LineFault::Preamble
+            | LineFault::Length => RadioError::BadLine,
         }
     }
 }

@@ -1,11 +1,11 @@
-// Errors, verdicts, modes and parameters: what the Rust's mod_params.rs declares, with our refusals after its errors.
+// Errors, modes and parameters: what the Rust's mod_params.rs declares, with our refusals after its errors.
 ghost use Rattle.std.specs.Prelude.{◌≡◌};
-ghost use Rattle.params.specs.Errors.{number_of, or};
+ghost use Rattle.params.specs.Errors.{number_of};
 
 use crate::units::Hertz;
 
 // In the Rust's order; from FrequencyOutOfRange on they are ours.
-#[derive(Clone, Copy)]
+#[derive(Clone, Copy, PartialEq, Eq)]
 pub enum RadioError {
     SPI,
     Reset,
@@ -85,34 +85,15 @@ impl RadioError {
     }
 }
 
-// Whether a call goes on.
-#[derive(Clone, Copy)]
-pub enum Verdict {
-    Clear,
-    Refused(RadioError),
-}
-
-impl Verdict {
-    // This refusal, or else the next one.
-    pub fn or(self, next: Verdict) -> Verdict
-        ensures { result ≡ or self next }
-    {
-        match self {
-            Verdict::Clear => next,
-            Verdict::Refused(_) => self,
-        }
-    }
-}
-
 // Listening for a packet: for a number of symbols, on and on, or now and then, which these chips do not support.
-#[derive(Clone, Copy)]
+#[derive(Clone, Copy, PartialEq, Eq)]
 pub enum RxMode {
     Single(u16),
     Continuous,
     DutyCycle,
 }
 
-#[derive(Clone, Copy)]
+#[derive(Clone, Copy, PartialEq, Eq)]
 pub enum RadioMode {
     Sleep,
     Standby,
@@ -123,7 +104,7 @@ pub enum RadioMode {
 }
 
 // Codes and flags are numbers here; a call that takes one judges it.
-#[derive(Clone, Copy)]
+#[derive(Clone, Copy, PartialEq, Eq)]
 pub struct ModulationParams {
     pub spreading_factor: u8,
     pub bandwidth: u8,
@@ -132,7 +113,7 @@ pub struct ModulationParams {
     pub frequency: Hertz,
 }
 
-#[derive(Clone, Copy)]
+#[derive(Clone, Copy, PartialEq, Eq)]
 pub struct PacketParams {
     pub preamble_length: u16,
     pub implicit_header: u8,
@@ -142,14 +123,14 @@ pub struct PacketParams {
 }
 
 // The signal of a received packet, in dBm and dB.
-#[derive(Clone, Copy)]
+#[derive(Clone, Copy, PartialEq, Eq)]
 pub struct PacketStatus {
     pub rssi: i16,
     pub snr: i16,
 }
 
 // All that makes a link: what whole programming takes and the reader returns.
-#[derive(Clone, Copy)]
+#[derive(Clone, Copy, PartialEq, Eq)]
 pub struct Link {
     pub public_network: u8,
     pub spreading_factor: u8,

@@ -3,11 +3,11 @@ ghost use Rattle.std.specs.Prelude.{◌≡◌, ◌^◌, ◌<◌};
 ghost use Rattle.sheets.specs.Frequency.{steps, frf_msb, frf_mid, frf_lsb, frf, read_back, lowest};
 
 // A frequency.
-#[derive(Clone, Copy)]
+#[derive(Clone, Copy, PartialEq, Eq)]
 pub struct Hertz(pub u32);
 
 // A count of synthesizer steps.
-#[derive(Clone, Copy)]
+#[derive(Clone, Copy, PartialEq, Eq)]
 pub struct Steps(pub u32);
 
 impl Hertz {
@@ -29,7 +29,7 @@ impl Steps {
         Steps(((msb as u32) * 256 + mid as u32) * 256 + lsb as u32)
     }
 
-    // The bytes that RegFrf takes of the count.
+    // The bytes that RegFrf takes of the count: its three registers by name, since the reader and a link's bytes ask for one at a time.
     pub fn frf_msb(self) -> u8
         ensures { result ≡ frf_msb self.0 }
     {

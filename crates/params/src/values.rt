@@ -4,7 +4,7 @@ ghost use Rattle.sheets.specs.Receive.{lna};
 ghost use Rattle.params.specs.Values.{lora_mode, ramp_code};
 
 // What the radio does.
-#[derive(Clone, Copy)]
+#[derive(Clone, Copy, PartialEq, Eq)]
 pub enum LoRaMode {
     Sleep,
     Standby,
@@ -31,7 +31,7 @@ impl LoRaMode {
 }
 
 // How fast the amplifier comes up: before a transmission, or when a link is programmed.
-#[derive(Clone, Copy)]
+#[derive(Clone, Copy, PartialEq, Eq)]
 pub enum RampTime {
     Ramp250Us,
     Ramp40Us,
@@ -49,7 +49,7 @@ impl RampTime {
 }
 
 // The highest gain of the receive amplifier, the only one that the operations use.
-#[derive(Clone, Copy)]
+#[derive(Clone, Copy, PartialEq, Eq)]
 pub struct LnaGain;
 
 impl LnaGain {

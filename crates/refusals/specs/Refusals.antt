@@ -1,19 +1,17 @@
 -- What an argument is refused by, and what refuses a link: document 01's table, "Numbers returned".
-use Rattle.std.specs.Prelude.{Bool, true, false, not, ◌&&◌, List, [], ◌∷◌, ℕ, eqb, leb, ltb}
+use Rattle.std.specs.Prelude.{Bool, true, false, not, ◌&&◌, List, [], ◌∷◌, ℕ, eqb, leb, ltb, Ok, Err}
 use Rattle.sheets.specs.declared.Variant.{Variant}
 use Rattle.sheets.specs.declared.Variant.TheVariants.{Sx1272, Sx1276}
 use Rattle.sheets.specs.Frequency.{frf_limit}
 use Rattle.sheets.specs.Modem.{has_bandwidth, lowest_band_end}
 use Rattle.params.specs.declared.mod_params.RadioError.{RadioError}
 use Rattle.params.specs.declared.mod_params.RadioError.TheVariants as error
-use Rattle.params.specs.declared.mod_params.Verdict.{Verdict}
-use Rattle.params.specs.declared.mod_params.Verdict.TheVariants.{Clear, Refused}
 use Rattle.params.specs.declared.mod_params.Link.{Link}
-use Rattle.params.specs.Errors.{or}
+use Rattle.params.specs.Errors.{Verdict, or}
 
 abbrev pub unless : Bool → RadioError → Verdict
-unless true e = Clear
-unless false e = Refused e
+unless true e = Ok tt
+unless false e = Err e
 
 -- ---- 8: a code that names no case
 
@@ -58,14 +56,14 @@ abbrev pub frequency_range : ℕ → Verdict
 frequency_range hz = unless (ltb hz frf_limit) error.FrequencyOutOfRange
 
 abbrev pub carrier : Variant → Verdict
-carrier Sx1272 = Refused error.CarrierUnsupported
-carrier Sx1276 = Clear
+carrier Sx1272 = Err error.CarrierUnsupported
+carrier Sx1276 = Ok tt
 
 -- ---- a link, and the parts of it that the `create_` calls judge
 
 -- the first refusal of a row, which stands in the order of the numbers
 abbrev pub first : List Verdict → Verdict
-first [] = Clear
+first [] = Ok tt
 first (v ∷ vs) = or v (first vs)
 
 abbrev pub link_verdicts : Variant → Link → List Verdict

@@ -2,41 +2,41 @@
 ghost use Rattle.std.specs.Prelude.{◌≡◌};
 ghost use Rattle.refusals.specs.Refusals.{spreading_factor_value, bandwidth_value, frequency_range};
 
-use params::mod_params::{RadioError, Verdict};
+use params::mod_params::RadioError;
 use params::units::Hertz;
 use sheets::{NO_CODE, Variant};
 
 // 14: spreading factor 5, which no SX127x has.
-pub fn spreading_factor_value(code: u8) -> Verdict
+pub fn spreading_factor_value(code: u8) -> Result<(), RadioError>
     ensures { result ≡ spreading_factor_value code }
 {
     match code {
-        5 => Verdict::Refused(RadioError::UnavailableSpreadingFactor),
-        _ => Verdict::Clear,
+        5 => Err(RadioError::UnavailableSpreadingFactor),
+        _ => Ok(()),
     }
 }
 
 // 15: a bandwidth that the variant has not.
-pub fn bandwidth_value(variant: Variant, code: u8) -> Verdict
+pub fn bandwidth_value(variant: Variant, code: u8) -> Result<(), RadioError>
     ensures { result ≡ bandwidth_value variant code }
 {
-    if 9 < code {
-        return Verdict::Refused(RadioError::UnavailableBandwidth);
+    if code > 9 {
+        return Err(RadioError::UnavailableBandwidth);
     }
     let value = variant.bandwidth_code(code);
     if value == NO_CODE {
-        return Verdict::Refused(RadioError::UnavailableBandwidth);
+        return Err(RadioError::UnavailableBandwidth);
     }
-    Verdict::Clear
+    Ok(())
 }
 
 // 23: a frequency whose count of steps RegFrf cannot hold.
-pub fn frequency_range(frequency: Hertz) -> Verdict
+pub fn frequency_range(frequency: Hertz) -> Result<(), RadioError>
     ensures { result ≡ frequency_range frequency.0 }
 {
-    let hz = frequency.0;
-    if hz < 1_024_000_000 {
-        return Verdict::Clear;
+    if frequency.0 < 1_024_000_000 {
+        Ok(())
+    } else {
+        Err(RadioError::FrequencyOutOfRange)
     }
-    Verdict::Refused(RadioError::FrequencyOutOfRange)
 }

@@ -5,7 +5,7 @@ ghost use Rattle.std.specs.Prelude.{◌≡◌, true, ◌<◌, length, get_or};
 ghost use Rattle.sheets.specs.Modem.{hertz, bandwidth_code};
 ghost use Rattle.sheets.specs.Reader.{reader_order};
 
-#[derive(Clone, Copy)]
+#[derive(Clone, Copy, PartialEq, Eq)]
 pub enum Variant {
     Sx1272,
     Sx1276,
@@ -16,7 +16,8 @@ const BANDWIDTHS: [u32; 10] = [
     7_810, 10_420, 15_630, 20_830, 31_250, 41_670, 62_500, 125_000, 250_000, 500_000,
 ];
 
-// A bandwidth that a variant has no code for.
+// A bandwidth that a variant has no code for. An Option is no plainer: who writes a code has judged the bandwidth, and the definition
+// `bandwidth_code`, which demand 3's page cites, is over numbers.
 pub const NO_CODE: u8 = 0xff;
 
 const SX1272_BANDWIDTH_CODES: [u8; 10] = [
