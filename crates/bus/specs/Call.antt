@@ -1,9 +1,7 @@
 -- A call: whether it is admitted, and then its whole outcome.
-use Rattle.std.specs.Prelude.{◌≡◌, ℕ, ◌%◌, Bool, ◌&&◌, List, [], length, ◌==◌, nat_le}
-use Rattle.params.specs.declared.mod_params.Verdict.{Verdict}
-use Rattle.params.specs.declared.mod_params.Verdict.TheVariants.{Clear, Refused}
+use Rattle.std.specs.Prelude.{◌≡◌, ℕ, ◌%◌, Bool, ◌&&◌, List, [], length, ◌==◌, nat_le, Ok, Err}
 use Rattle.params.specs.declared.mod_params.RadioError.TheVariants.{BadImage, LogFull}
-use Rattle.params.specs.Errors.{Told, told, refusal, or}
+use Rattle.params.specs.Errors.{Verdict, Told, told, refusal, or}
 use Rattle.refusals.specs.Refusals.{unless}
 use Rattle.bus.specs.Steps.{Step, image_after, log_after, end_after, fifo_after, buffer_after}
 
@@ -40,9 +38,9 @@ pub record Outcome : Type 0 where
 
 -- a refusal leaves all as it was; a call that goes on does its steps and tells what it has to tell
 abbrev pub settled : Verdict → Told → List Step → List ℕ → List ℕ → List ℕ → List ℕ → ℕ → Outcome
-settled (Refused e) t s im fifo log buffer used =
+settled (Err e) t s im fifo log buffer used =
     record { tells = refusal e; used = used; image = im; fifo = fifo; log = log; buffer = buffer }
-settled Clear t s im fifo log buffer used =
+settled (Ok tt) t s im fifo log buffer used =
     record {
       tells = t;
       used = end_after s im used;

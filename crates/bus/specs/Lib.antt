@@ -1,3 +1,4 @@
 pub mod Access
 pub mod Steps
 pub mod Call
+pub mod Lent

@@ -9,7 +9,7 @@ const POINTER: usize = 0x0d;
 fn next(place: u8) -> u8
     ensures { result ≡ (place + 1) % 256 }
 {
-    std::num::wrapping_add_u8(place, 1)
+    place.wrapping_add(1)
 }
 
 pub fn burst_write(image: &mut [u8], fifo: &mut [u8], buf: &[u8])
@@ -18,11 +18,9 @@ pub fn burst_write(image: &mut [u8], fifo: &mut [u8], buf: &[u8])
     ensures fifo_after { fifo.new ≡ laid buf.now (pointer image.old) fifo.old }
 {
     let mut to = image[POINTER];
-    let mut i = 0;
-    while i < buf.len() {
-        fifo[to as usize] = buf[i];
+    for &byte in buf {
+        fifo[to as usize] = byte;
         to = next(to);
-        i += 1;
     }
     image[POINTER] = to;
 }
@@ -33,11 +31,9 @@ pub fn burst_read(image: &mut [u8], fifo: &[u8], buf: &mut [u8], count: usize)
     ensures buf_after { buf.new ≡ taken (pointer image.old) count fifo.now ++ drop count buf.old }
 {
     let mut from = image[POINTER];
-    let mut i = 0;
-    while i < count {
-        buf[i] = fifo[from as usize];
+    for place in &mut buf[..count] {
+        *place = fifo[from as usize];
         from = next(from);
-        i += 1;
     }
     image[POINTER] = from;
 }

@@ -1,12 +1,11 @@
-// What a mode means for interrupts: which are shut out and cleared when they are set up, which pins tell them, and where a call for them is refused.
-ghost use Rattle.std.specs.Prelude.{◌≡◌};
+// What a mode means for interrupts: which are shut out and cleared when they are set up, which pins tell them, and where an event is refused.
+ghost use Rattle.std.specs.Prelude.{◌≡◌, Some, Ok};
+ghost use Rattle.std.specs.Result.{ForOk, result_and};
 ghost use Rattle.sheets.specs.Interrupts.{shut_out, mapping_keeps, mapping, clearing};
-ghost use Rattle.refusals.specs.declared.mode_codes.ModeCode.TheVariants.{Named};
 ghost use Rattle.refusals.specs.Modes.{activity};
-ghost use Rattle.operations.specs.Interrupts.{activity_of, irq_refusal, event_refusal};
+ghost use Rattle.operations.specs.Interrupts.{event_refusal};
 
-use params::mod_params::{RadioError, RadioMode, RxMode, Verdict};
-use refusals::mode_codes::ModeCode;
+use params::mod_params::{RadioError, RadioMode, RxMode};
 
 // What DIO0 and DIO3 tell, and the mappings of the other pins: the Rust's `DioMapping1Dio0` and `DioMapping1Dio3`.
 const DIO0_RX_DONE: u8 = 0x00;
@@ -40,9 +39,7 @@ pub fn dio_mapping_1_mask(mode: RadioMode) -> u8
     ensures { result ≡ mapping_keeps (activity mode) }
 {
     match mode {
-        RadioMode::Transmit => DIO0_MASK,
         RadioMode::Receive(_) => DIO0_MASK & DIO3_MASK,
-        RadioMode::ChannelActivityDetection => DIO0_MASK,
         _ => DIO0_MASK,
     }
 }
@@ -63,54 +60,21 @@ pub fn irq_flags(mode: RadioMode) -> u8
     ensures { result ≡ clearing (activity mode) }
 {
     match mode {
-        RadioMode::Transmit => 0x00,
-        RadioMode::Receive(_) => 0x00,
-        RadioMode::ChannelActivityDetection => 0x00,
+        RadioMode::Transmit | RadioMode::Receive(_) | RadioMode::ChannelActivityDetection => 0x00,
         _ => 0xff,
     }
 }
 
-// Without a mode interrupts are those of Sleep: the Rust's last arm has both.
-pub fn mode_or_sleep(code: ModeCode) -> RadioMode
-    ensures { activity result ≡ activity_of code }
+// The mode that an event is looked at in: it has to be named, and 9 is told where the Rust would panic.
+pub fn event_mode(mode: Result<Option<RadioMode>, RadioError>) -> Result<RadioMode, RadioError>
+    ensures refused { result_and result (Ok tt) ≡ event_refusal mode }
+    ensures named { ForOk result (λ m. mode ≡ Ok (Some m)) }
 {
-    match code {
-        ModeCode::Named(mode) => mode,
-        ModeCode::NoMode => RadioMode::Sleep,
-        ModeCode::NoCase => RadioMode::Sleep,
-    }
-}
-
-pub fn set_refusal(code: ModeCode) -> Verdict
-    ensures { result ≡ irq_refusal code }
-{
-    match code {
-        ModeCode::Named(_) => Verdict::Clear,
-        ModeCode::NoMode => Verdict::Clear,
-        ModeCode::NoCase => Verdict::Refused(RadioError::InvalidConfiguration),
-    }
-}
-
-// 9 where the Rust would panic.
-fn mode_refusal(mode: RadioMode) -> Verdict
-    ensures { result ≡ event_refusal (Named mode) }
-{
-    match mode {
-        RadioMode::FrequencySynthesis => Verdict::Refused(RadioError::InvalidRadioMode),
-        RadioMode::Receive(rx) => match rx {
-            RxMode::DutyCycle => Verdict::Refused(RadioError::InvalidRadioMode),
-            _ => Verdict::Clear,
-        },
-        _ => Verdict::Clear,
-    }
-}
-
-pub fn event_refusal(code: ModeCode) -> Verdict
-    ensures { result ≡ event_refusal code }
-{
-    match code {
-        ModeCode::Named(mode) => mode_refusal(mode),
-        ModeCode::NoMode => Verdict::Refused(RadioError::InvalidConfiguration),
-        ModeCode::NoCase => Verdict::Refused(RadioError::InvalidConfiguration),
+    match mode? {
+        None => Err(RadioError::InvalidConfiguration),
+        Some(RadioMode::FrequencySynthesis | RadioMode::Receive(RxMode::DutyCycle)) => {
+            Err(RadioError::InvalidRadioMode)
+        }
+        Some(mode) => Ok(mode),
     }
 }

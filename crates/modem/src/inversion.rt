@@ -1,10 +1,10 @@
 // The inversion of IQ: the two registers that hold it.
-ghost use Rattle.std.specs.Prelude.{◌≡◌, ◌+◌, ◌≤◌, length};
+ghost use Rattle.std.specs.Prelude.{◌≡◌};
 ghost use Rattle.sheets.specs.Modem.{invert_iq, invert_iq2};
-ghost use Rattle.bus.specs.Steps.{Done};
+ghost use Rattle.bus.specs.Lent.{Room, Did};
 ghost use Rattle.operations.specs.Modem.{inversion};
 
-use bus::write_register;
+use bus::Radio;
 use params::radio_kind_params::Register;
 
 // RegInvertiq with InvertIQ RX or InvertIQ TX set, beside its reserved bits.
@@ -17,30 +17,37 @@ const INVERT_IQ2_ON: u8 = 0x19;
 
 const INVERT_IQ2_OFF: u8 = 0x1d;
 
-pub fn invert_iq(iq_inverted: u8) -> u8
-    ensures { result ≡ invert_iq iq_inverted }
-{
-    match iq_inverted {
-        0 => INVERT_IQ_TX,
-        _ => INVERT_IQ_RX,
+// RegInvertiq and RegInvertiq2.
+#[derive(Clone, Copy)]
+pub struct Inversion {
+    pub invert_iq: u8,
+    pub invert_iq2: u8,
+}
+
+impl Inversion {
+    // Of the flag.
+    pub fn of(iq_inverted: u8) -> Inversion
+        ensures iq { result.invert_iq ≡ invert_iq iq_inverted }
+        ensures iq2 { result.invert_iq2 ≡ invert_iq2 iq_inverted }
+    {
+        match iq_inverted {
+            0 => Inversion {
+                invert_iq: INVERT_IQ_TX,
+                invert_iq2: INVERT_IQ2_OFF,
+            },
+            _ => Inversion {
+                invert_iq: INVERT_IQ_RX,
+                invert_iq2: INVERT_IQ2_ON,
+            },
+        }
     }
 }
 
-pub fn invert_iq2(iq_inverted: u8) -> u8
-    ensures { result ≡ invert_iq2 iq_inverted }
+pub fn write_inversion(radio: &mut Radio<'_>, iq_inverted: u8)
+    requires { Room 2 radio.old }
+    ensures { Did (inversion iq_inverted) radio.old radio.new }
 {
-    match iq_inverted {
-        0 => INVERT_IQ2_OFF,
-        _ => INVERT_IQ2_ON,
-    }
-}
-
-pub fn write_inversion(image: &mut [u8], log: &mut [u8], at: usize, iq_inverted: u8) -> usize
-    requires { (at + 6 ≤ length log.old) × (length image.old ≡ 128) }
-    ensures { Done (inversion iq_inverted) image.old log.old at result image.new log.new }
-{
-    let iq1 = invert_iq(iq_inverted);
-    let iq2 = invert_iq2(iq_inverted);
-    let at = write_register(image, log, at, Register::RegInvertiq, iq1);
-    write_register(image, log, at, Register::RegInvertiq2, iq2)
+    let values = Inversion::of(iq_inverted);
+    radio.write_register(Register::RegInvertiq, values.invert_iq);
+    radio.write_register(Register::RegInvertiq2, values.invert_iq2);
 }

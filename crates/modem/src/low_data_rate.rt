@@ -12,14 +12,10 @@ fn is_long_symbol(spreading_factor: u8, bw_in_hz: u32) -> bool
     1000 * (1u32 << spreading_factor) > 16 * bw_in_hz
 }
 
+#[tactic(auto, using(sheets::proofs::Modem::hertz_le), unfolding(sheets::specs::Modem::optimize))]
 pub fn low_data_rate_optimize(spreading_factor: u8, bandwidth: u8) -> u8
     requires { (spreading_factor ≤ 12) × (bandwidth < 10) }
     ensures { result ≡ optimize spreading_factor bandwidth }
 {
-    let bw_in_hz = bandwidth_hertz(bandwidth);
-    if is_long_symbol(spreading_factor, bw_in_hz) {
-        1
-    } else {
-        0
-    }
+    is_long_symbol(spreading_factor, bandwidth_hertz(bandwidth)) as u8
 }

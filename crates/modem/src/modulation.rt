@@ -1,79 +1,58 @@
 // Modulation: `set_modulation_params`.
-ghost use Rattle.std.specs.Prelude.{◌≡◌, [], ◌+◌, ◌*◌, ◌≤◌, length};
+ghost use Rattle.std.specs.Prelude.{◌≡◌, Ok};
 ghost use Rattle.sheets.specs.Modem.{bandwidth_code};
-ghost use Rattle.params.specs.Answers.{tells_done, used_done};
-ghost use Rattle.bus.specs.Steps.{Done};
-ghost use Rattle.bus.specs.Call.{Meets};
+ghost use Rattle.params.specs.Answers.{tells_done};
+ghost use Rattle.bus.specs.Lent.{Room, Did, Calls};
 ghost use Rattle.operations.specs.Modem.{modem, modulation_refusal, modulation_steps, set_modulation};
 ghost use Rattle.operations.specs.Records.{modem_records, modulation_records};
 
 use crate::detection::write_detection;
-use crate::parameter_refusals;
-use bus::admit::admit;
-use params::answers::Answer;
-use params::mod_params::{ModulationParams, Verdict};
+use crate::parameter_refusals::{modulation_had, modulation_named};
+use bus::Radio;
+use params::mod_params::{ModulationParams, RadioError};
 use refusals::codes;
 use sheets::Variant;
 use variants::records::modulation_records;
 use variants::{sx1272, sx1276};
 
 // Each variant has its own modem registers.
-fn write_modem(
-    image: &mut [u8],
-    log: &mut [u8],
-    at: usize,
-    variant: Variant,
-    p: ModulationParams,
-) -> usize
-    requires variant_in_bounds { (at + 3 * modem_records variant ≤ length log.old) × (length image.old ≡ 128) }
-    requires p_value { modulation_refusal variant p ≡ Verdict.Clear }
-    ensures { Done (modem variant p.spreading_factor (bandwidth_code variant p.bandwidth) p.coding_rate p.low_data_rate_optimize) image.old log.old at result image.new log.new }
+fn write_modem(radio: &mut Radio<'_>, variant: Variant, p: ModulationParams)
+    requires room { Room (modem_records variant) radio.old }
+    requires p_value { modulation_refusal variant p ≡ Ok tt }
+    ensures { Did (modem variant p.spreading_factor (bandwidth_code variant p.bandwidth) p.coding_rate p.low_data_rate_optimize) radio.old radio.new }
 {
-    let sf = p.spreading_factor;
-    let bw = p.bandwidth;
-    let cr = p.coding_rate;
-    let ldro = p.low_data_rate_optimize;
     match variant {
-        Variant::Sx1272 => sx1272::set_modulation_params(image, log, at, sf, bw, cr, ldro),
-        Variant::Sx1276 => sx1276::set_modulation_params(image, log, at, sf, bw, cr, ldro),
+        Variant::Sx1272 => sx1272::set_modulation_params(radio, p),
+        Variant::Sx1276 => sx1276::set_modulation_params(radio, p),
     }
 }
 
-pub fn write_modulation(
-    image: &mut [u8],
-    log: &mut [u8],
-    at: usize,
-    variant: Variant,
-    p: ModulationParams,
-) -> usize
-    requires variant_in_bounds { (at + 3 * modulation_records variant ≤ length log.old) × (length image.old ≡ 128) }
-    requires p_value { modulation_refusal variant p ≡ Verdict.Clear }
-    ensures { Done (modulation_steps variant p) image.old log.old at result image.new log.new }
+pub fn write_modulation(radio: &mut Radio<'_>, variant: Variant, p: ModulationParams)
+    requires room { Room (modulation_records variant) radio.old }
+    requires p_value { modulation_refusal variant p ≡ Ok tt }
+    ensures { Did (modulation_steps variant p) radio.old radio.new }
 {
-    let at = write_detection(image, log, at, p.spreading_factor);
-    write_modem(image, log, at, variant, p)
+    write_detection(radio, p.spreading_factor);
+    write_modem(radio, variant, p);
 }
 
-fn modulation_refusal(variant: Variant, p: ModulationParams) -> Verdict
+fn modulation_refusal(variant: Variant, p: ModulationParams) -> Result<(), RadioError>
     ensures { result ≡ modulation_refusal variant p }
 {
-    let had = parameter_refusals::modulation_had(variant, p.spreading_factor, p.bandwidth);
-    let rest = codes::flag(p.low_data_rate_optimize).or(had);
-    parameter_refusals::modulation_named(p.spreading_factor, p.bandwidth, p.coding_rate).or(rest)
+    modulation_named(p.spreading_factor, p.bandwidth, p.coding_rate)?;
+    codes::flag(p.low_data_rate_optimize)?;
+    modulation_had(variant, p.spreading_factor, p.bandwidth)
 }
 
 pub fn set_modulation_params(
-    image: &mut [u8],
-    log: &mut [u8],
-    used: usize,
+    radio: &mut Radio<'_>,
     variant: Variant,
     mdltn_params: ModulationParams,
-) -> Answer
-    ensures { Meets (set_modulation variant mdltn_params image.old log.old used) (tells_done result) (used_done result) image.new [] log.new [] }
+) -> Result<(), RadioError>
+    ensures { Calls (set_modulation variant mdltn_params) (tells_done result) radio.old radio.new }
 {
     let asked = modulation_refusal(variant, mdltn_params);
-    match admit(image, log, used, asked, modulation_records(variant)) {
-        Verdict::Refused(e) => Answer::Refused(e, used),
-        Verdict::Clear => Answer::Done(write_modulation(image, log, used, variant, mdltn_params)),
-    }
+    radio.admit(asked, modulation_records(variant))?;
+    write_modulation(radio, variant, mdltn_params);
+    Ok(())
 }

@@ -5,8 +5,7 @@ ghost use Rattle.operations.specs.Modem.{create_modulation, create_packet};
 
 use crate::low_data_rate::low_data_rate_optimize;
 use crate::parameter_refusals::{modulation_had, modulation_named, packet_named};
-use params::answers::{ModulationAnswer, PacketAnswer};
-use params::mod_params::{ModulationParams, PacketParams, Verdict};
+use params::mod_params::{ModulationParams, PacketParams, RadioError};
 use params::units::Hertz;
 use refusals::{codes, link_refusals};
 use sheets::Variant;
@@ -17,25 +16,20 @@ pub fn create_modulation_params(
     bandwidth: u8,
     coding_rate: u8,
     frequency_in_hz: u32,
-) -> ModulationAnswer
+) -> Result<ModulationParams, RadioError>
     ensures { tells_modulation result ≡ create_modulation variant spreading_factor bandwidth coding_rate frequency_in_hz }
 {
     let frequency = Hertz(frequency_in_hz);
-    let band = link_refusals::bandwidth_for_frequency(bandwidth, frequency);
-    let had = modulation_had(variant, spreading_factor, bandwidth).or(band);
-    match modulation_named(spreading_factor, bandwidth, coding_rate).or(had) {
-        Verdict::Refused(e) => ModulationAnswer::Refused(e),
-        Verdict::Clear => {
-            let low_data_rate_optimize = low_data_rate_optimize(spreading_factor, bandwidth);
-            ModulationAnswer::Created(ModulationParams {
-                spreading_factor,
-                bandwidth,
-                coding_rate,
-                low_data_rate_optimize,
-                frequency,
-            })
-        }
-    }
+    modulation_named(spreading_factor, bandwidth, coding_rate)?;
+    modulation_had(variant, spreading_factor, bandwidth)?;
+    link_refusals::bandwidth_for_frequency(bandwidth, frequency)?;
+    Ok(ModulationParams {
+        spreading_factor,
+        bandwidth,
+        coding_rate,
+        low_data_rate_optimize: low_data_rate_optimize(spreading_factor, bandwidth),
+        frequency,
+    })
 }
 
 pub fn create_packet_params(
@@ -45,19 +39,17 @@ pub fn create_packet_params(
     crc_on: u8,
     iq_inverted: u8,
     spreading_factor: u8,
-) -> PacketAnswer
+) -> Result<PacketParams, RadioError>
     ensures { tells_packet result ≡ create_packet preamble_length implicit_header payload_length crc_on iq_inverted spreading_factor }
 {
-    let header = link_refusals::header_for_spreading_factor(spreading_factor, implicit_header);
-    let factor = codes::spreading_factor(spreading_factor).or(header);
-    match packet_named(implicit_header, crc_on, iq_inverted).or(factor) {
-        Verdict::Refused(e) => PacketAnswer::Refused(e),
-        Verdict::Clear => PacketAnswer::Created(PacketParams {
-            preamble_length,
-            implicit_header,
-            payload_length,
-            crc_on,
-            iq_inverted,
-        }),
-    }
+    packet_named(implicit_header, crc_on, iq_inverted)?;
+    codes::spreading_factor(spreading_factor)?;
+    link_refusals::header_for_spreading_factor(spreading_factor, implicit_header)?;
+    Ok(PacketParams {
+        preamble_length,
+        implicit_header,
+        payload_length,
+        crc_on,
+        iq_inverted,
+    })
 }

@@ -1,5 +1,6 @@
 -- Each operation with the count of its records, as the laws of calls want it.
 -- Assumes nothing.
+use Rattle.std.specs.Prelude.{Option, Result, Ok}
 use mathlib.Core.Path.{refl}
 use mathlib.Core.Bool.{Bool}
 use mathlib.Core.List.{List}
@@ -12,12 +13,11 @@ use Rattle.sheets.specs.Interrupts.{event}
 use Rattle.params.specs.declared.mod_params.ModulationParams.{ModulationParams}
 use Rattle.params.specs.declared.mod_params.PacketParams.{PacketParams}
 use Rattle.params.specs.declared.mod_params.Link.{Link}
-use Rattle.params.specs.declared.mod_params.Verdict.{Verdict}
-use Rattle.params.specs.declared.mod_params.Verdict.TheVariants.{Clear}
-use Rattle.params.specs.Errors.{or}
+use Rattle.params.specs.Errors.{Verdict, or}
 use Rattle.params.specs.declared.board.Board.{Board}
-use Rattle.refusals.specs.declared.mode_codes.RxModeCode.{RxModeCode}
-use Rattle.refusals.specs.declared.mode_codes.ModeCode.{ModeCode}
+use Rattle.params.specs.declared.mod_params.RadioError.{RadioError}
+use Rattle.params.specs.declared.mod_params.RadioMode.{RadioMode}
+use Rattle.params.specs.declared.mod_params.RxMode.{RxMode}
 use Rattle.refusals.specs.Refusals.{flag, base_addresses, carrier, link_refusal}
 use Rattle.bus.specs.Steps.{Step, Makes, Quiet}
 use Rattle.bus.specs.Call.{well}
@@ -44,7 +44,7 @@ abbrev pub bases_op : ℕ → ℕ → Operation
 bases_op tx rx = plain (base_addresses tx rx) bases 2 count.bases_count (λ im. refl)
 
 abbrev pub channel_op : ℕ → Operation
-channel_op hz = plain Clear (channel hz) 3 (count.channel_count hz) (λ im. refl)
+channel_op hz = plain (Ok tt) (channel hz) 3 (count.channel_count hz) (λ im. refl)
 
 abbrev pub modulation_op : Variant → ModulationParams → Operation
 modulation_op v m =
@@ -63,33 +63,33 @@ power_op b p prep = plain (flag prep) (power b.variant b.tx_boost p prep) (power
     (count.power_quiet b.variant b.tx_boost p prep)
 
 abbrev pub standby_op : Operation
-standby_op = plain Clear standby 2 count.standby_count (λ im. refl)
+standby_op = plain (Ok tt) standby 2 count.standby_count (λ im. refl)
 
 abbrev pub sleep_op : Operation
-sleep_op = plain Clear sleep 2 count.sleep_count (λ im. refl)
+sleep_op = plain (Ok tt) sleep 2 count.sleep_count (λ im. refl)
 
 abbrev pub reset_op : Operation
-reset_op = plain Clear resetting 3 count.reset_count (λ im. refl)
+reset_op = plain (Ok tt) resetting 3 count.reset_count (λ im. refl)
 
 abbrev pub tx_op : Operation
-tx_op = plain Clear transmission 2 count.tx_count (λ im. refl)
+tx_op = plain (Ok tt) transmission 2 count.tx_count (λ im. refl)
 
 abbrev pub cad_op : Bool → Operation
-cad_op boost = plain Clear (detecting boost) 3 (count.cad_count boost) (λ im. refl)
+cad_op boost = plain (Ok tt) (detecting boost) 3 (count.cad_count boost) (λ im. refl)
 
-abbrev pub rx_op : Bool → RxModeCode → Operation
+abbrev pub rx_op : Bool → Result RxMode RadioError → Operation
 rx_op boost m = plain (rx_refusal m) (reception boost (rx_window m) (rx_op_mode m)) 8 (count.rx_count boost (rx_window m) (rx_op_mode m)) (λ im. refl)
 
 abbrev pub carrier_op : Variant → Operation
 carrier_op v = plain (carrier v) carrier_test 6 count.carrier_count (λ im. refl)
 
 abbrev pub status_op : Variant → List ℕ → Operation
-status_op v im = record { asked = Clear; tells = measured v im; steps = measuring v; records = measuring_records v; makes = count.measuring_count v; quiet = count.measuring_quiet v }
+status_op v im = record { asked = Ok tt; tells = measured v im; steps = measuring v; records = measuring_records v; makes = count.measuring_count v; quiet = count.measuring_quiet v }
 
-abbrev pub irq_op : ModeCode → Operation
+abbrev pub irq_op : Result (Option RadioMode) RadioError → Operation
 irq_op m = plain (irq_refusal m) (preparing (activity_of m)) 4 (count.preparing_count (activity_of m)) (λ im. refl)
 
-abbrev pub event_op : ModeCode → ℕ → List ℕ → Operation
+abbrev pub event_op : Result (Option RadioMode) RadioError → ℕ → List ℕ → Operation
 event_op m clear im = record {
   asked = or (flag clear) (event_refusal m);
   tells = event_told (event (activity_of m) (get_or im reg_irq_flags 0));

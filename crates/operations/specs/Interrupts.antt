@@ -1,16 +1,14 @@
 -- `set_irq_params`, `process_irq_event`.
-use Rattle.std.specs.Prelude.{List, [], ◌∷◌, ℕ, zero, suc, get_or, pos}
+use Rattle.std.specs.Prelude.{List, [], ◌∷◌, ℕ, zero, suc, get_or, pos, Option, Some, None, Result, Ok, Err}
 use Rattle.sheets.specs.Registers.{reg_irq_flags_mask, reg_irq_flags, reg_dio_mapping1}
 use Rattle.sheets.specs.Interrupts.{Activity, Activity.other, Event, Event.nothing, Event.preamble_received, Event.done, Event.timed_out, Event.channel_checked, shut_out, mapping_keeps, mapping, clearing, event}
 use Rattle.params.specs.declared.mod_params.RadioError.TheVariants.{InvalidConfiguration, InvalidRadioMode, ReceiveTimeout}
+use Rattle.params.specs.declared.mod_params.RadioError.{RadioError}
 use Rattle.params.specs.declared.mod_params.RxMode.TheVariants.{Single, Continuous, DutyCycle}
+use Rattle.params.specs.declared.mod_params.RadioMode.{RadioMode}
 use Rattle.params.specs.declared.mod_params.RadioMode.TheVariants.{Sleep, Standby, FrequencySynthesis, Transmit, Receive, ChannelActivityDetection}
-use Rattle.params.specs.declared.mod_params.Verdict.{Verdict}
-use Rattle.params.specs.declared.mod_params.Verdict.TheVariants.{Clear, Refused}
 use Rattle.params.specs.Answers.{flag_value}
-use Rattle.params.specs.Errors.{Told, told, refusal, or}
-use Rattle.refusals.specs.declared.mode_codes.ModeCode.{ModeCode}
-use Rattle.refusals.specs.declared.mode_codes.ModeCode.TheVariants.{Named, NoMode, NoCase}
+use Rattle.params.specs.Errors.{Verdict, Told, told, refusal, or}
 use Rattle.refusals.specs.Modes.{mode_of, activity}
 use Rattle.refusals.specs.Refusals.{flag}
 use Rattle.bus.specs.Steps.{Step, Read, Write, Modify}
@@ -22,17 +20,16 @@ abbrev pub preparing : Activity → List Step
 preparing a = Write reg_irq_flags_mask (shut_out a) ∷ Modify reg_dio_mapping1 (mapping_keeps a) (mapping a) ∷ Write reg_irq_flags (clearing a) ∷ []
 
 -- no mode is one of the others
-abbrev pub activity_of : ModeCode → Activity
-activity_of (Named m) = activity m
-activity_of NoMode = other
-activity_of NoCase = other
+abbrev pub activity_of : Result (Option RadioMode) RadioError → Activity
+activity_of (Ok (Some m)) = activity m
+activity_of (Ok None) = other
+activity_of (Err e) = other
 
-abbrev pub irq_refusal : ModeCode → Verdict
-irq_refusal (Named m) = Clear
-irq_refusal NoMode = Clear
-irq_refusal NoCase = Refused InvalidConfiguration
+abbrev pub irq_refusal : Result (Option RadioMode) RadioError → Verdict
+irq_refusal (Ok mode) = Ok tt
+irq_refusal (Err e) = Err e
 
-abbrev pub set_irq_as : ModeCode → List ℕ → List ℕ → ℕ → Outcome
+abbrev pub set_irq_as : Result (Option RadioMode) RadioError → List ℕ → List ℕ → ℕ → Outcome
 set_irq_as m = call (irq_refusal m) well (preparing (activity_of m))
 
 abbrev pub set_irq : ℕ → ℕ → List ℕ → List ℕ → ℕ → Outcome
@@ -46,17 +43,17 @@ looking zero = Read reg_irq_flags ∷ []
 looking (suc c) = Read reg_irq_flags ∷ Write reg_irq_flags 255 ∷ []
 
 -- a mode has to be named; where the Rust would panic, 9
-abbrev pub event_refusal : ModeCode → Verdict
-event_refusal (Named Sleep) = Clear
-event_refusal (Named Standby) = Clear
-event_refusal (Named FrequencySynthesis) = Refused InvalidRadioMode
-event_refusal (Named Transmit) = Clear
-event_refusal (Named (Receive (Single n))) = Clear
-event_refusal (Named (Receive Continuous)) = Clear
-event_refusal (Named (Receive DutyCycle)) = Refused InvalidRadioMode
-event_refusal (Named ChannelActivityDetection) = Clear
-event_refusal NoMode = Refused InvalidConfiguration
-event_refusal NoCase = Refused InvalidConfiguration
+abbrev pub event_refusal : Result (Option RadioMode) RadioError → Verdict
+event_refusal (Ok (Some Sleep)) = Ok tt
+event_refusal (Ok (Some Standby)) = Ok tt
+event_refusal (Ok (Some FrequencySynthesis)) = Err InvalidRadioMode
+event_refusal (Ok (Some Transmit)) = Ok tt
+event_refusal (Ok (Some (Receive (Single n)))) = Ok tt
+event_refusal (Ok (Some (Receive Continuous))) = Ok tt
+event_refusal (Ok (Some (Receive DutyCycle))) = Err InvalidRadioMode
+event_refusal (Ok (Some ChannelActivityDetection)) = Ok tt
+event_refusal (Ok None) = Err InvalidConfiguration
+event_refusal (Err e) = Err e
 
 -- 20 is told after its steps are done
 abbrev pub event_told : Event → Told
@@ -66,7 +63,7 @@ event_told done = told 0 (pos 2 ∷ [])
 event_told (channel_checked found) = told 0 (pos 2 ∷ flag_value found ∷ [])
 event_told timed_out = refusal ReceiveTimeout
 
-abbrev pub process_as : ModeCode → ℕ → List ℕ → List ℕ → ℕ → Outcome
+abbrev pub process_as : Result (Option RadioMode) RadioError → ℕ → List ℕ → List ℕ → ℕ → Outcome
 process_as m clear im =
     call (or (flag clear) (event_refusal m)) (event_told (event (activity_of m) (get_or im reg_irq_flags 0))) (looking clear) im
 

@@ -1,5 +1,5 @@
 -- `create_modulation_params`, `create_packet_params`, `set_modulation_params`, `set_packet_params`.
-use Rattle.std.specs.Prelude.{List, [], ◌∷◌, ◌++◌, ℕ, ◌+◌, ◌-◌, ◌/◌, ◌%◌, ℤ, pos}
+use Rattle.std.specs.Prelude.{List, [], ◌∷◌, ◌++◌, ℕ, ◌+◌, ◌-◌, ◌/◌, ◌%◌, ℤ, pos, Ok, Err}
 use Rattle.sheets.specs.declared.Variant.{Variant}
 use Rattle.sheets.specs.declared.Variant.TheVariants.{Sx1272, Sx1276}
 use Rattle.sheets.specs.Bits.{mask, at}
@@ -7,9 +7,7 @@ use Rattle.sheets.specs.Registers as R
 use Rattle.sheets.specs.Modem.{bandwidth_code, optimize, detection_keeps, detection_optimize, detection_threshold, invert_iq, invert_iq2}
 use Rattle.params.specs.declared.mod_params.ModulationParams.{ModulationParams}
 use Rattle.params.specs.declared.mod_params.PacketParams.{PacketParams}
-use Rattle.params.specs.declared.mod_params.Verdict.{Verdict}
-use Rattle.params.specs.declared.mod_params.Verdict.TheVariants.{Clear, Refused}
-use Rattle.params.specs.Errors.{Told, told, refusal, or}
+use Rattle.params.specs.Errors.{Verdict, Told, told, refusal, or}
 use Rattle.refusals.specs.Refusals.{spreading_factor, bandwidth, coding_rate, flag, spreading_factor_value, bandwidth_value, bandwidth_for_frequency, header_for_spreading_factor}
 use Rattle.bus.specs.Steps.{Step, Write, Modify, put_field}
 use Rattle.bus.specs.Call.{Outcome, call, well}
@@ -18,8 +16,8 @@ use Rattle.bus.specs.Call.{Outcome, call, well}
 
 -- what a call that appends nothing tells
 abbrev pub tells_unless : Verdict → List ℤ → Told
-tells_unless Clear vs = told 0 vs
-tells_unless (Refused e) vs = refusal e
+tells_unless (Ok tt) vs = told 0 vs
+tells_unless (Err e) vs = refusal e
 
 -- 8 for each code, then 14 and 15
 abbrev pub modulation_named : ℕ → ℕ → ℕ → Verdict

@@ -1,18 +1,17 @@
 -- `reset`, `set_standby`, `set_sleep`, `do_tx`, `do_rx`, `do_cad`, `set_tx_continuous_wave_mode`.
-use Rattle.std.specs.Prelude.{Bool, List, [], ◌∷◌, ◌++◌, ℕ}
+use Rattle.std.specs.Prelude.{Bool, List, [], ◌∷◌, ◌++◌, ℕ, Result, Ok, Err}
 use Rattle.sheets.specs.declared.Variant.{Variant}
 use Rattle.sheets.specs.Registers.{reg_op_mode, reg_lna, reg_fifo_addr_ptr, reg_payload_length, reg_symb_timeout_lsb, symb_timeout_msb, pa_select, tx_continuous_mode}
 use Rattle.sheets.specs.Receive.{op_mode, carrier_mode, lna, window, window_msb, window_lsb}
-use Rattle.params.specs.declared.mod_params.RadioError.TheVariants.{InvalidConfiguration, DutyCycleUnsupported}
+use Rattle.params.specs.declared.mod_params.RadioError.TheVariants.{DutyCycleUnsupported}
+use Rattle.params.specs.declared.mod_params.RadioError.{RadioError}
+use Rattle.params.specs.declared.mod_params.RxMode.{RxMode}
 use Rattle.params.specs.declared.mod_params.RxMode.TheVariants.{Single, Continuous, DutyCycle}
-use Rattle.params.specs.declared.mod_params.Verdict.{Verdict}
-use Rattle.params.specs.declared.mod_params.Verdict.TheVariants.{Clear, Refused}
-use Rattle.refusals.specs.declared.mode_codes.RxModeCode.{RxModeCode}
-use Rattle.refusals.specs.declared.mode_codes.RxModeCode.TheVariants.{Named, NoCase}
 use Rattle.refusals.specs.Modes.{rx_mode_of}
 use Rattle.refusals.specs.Refusals.{carrier}
 use Rattle.bus.specs.Steps.{Step, Write, put_field, RfSwitch, ResetPin, SleepWrite}
 use Rattle.bus.specs.Call.{Outcome, call, well}
+use Rattle.params.specs.Errors.{Verdict}
 
 -- ---- the antenna switch
 
@@ -60,42 +59,42 @@ carrier_test = RfSwitch receive ∷ put_field pa_select 1 ∷ Write reg_op_mode 
 
 -- ---- a receive mode: its refusal, its window and its mode
 
-abbrev pub rx_refusal : RxModeCode → Verdict
-rx_refusal (Named (Single n)) = Clear
-rx_refusal (Named Continuous) = Clear
-rx_refusal (Named DutyCycle) = Refused DutyCycleUnsupported
-rx_refusal NoCase = Refused InvalidConfiguration
+abbrev pub rx_refusal : Result RxMode RadioError → Verdict
+rx_refusal (Ok (Single n)) = Ok tt
+rx_refusal (Ok Continuous) = Ok tt
+rx_refusal (Ok DutyCycle) = Err DutyCycleUnsupported
+rx_refusal (Err e) = Err e
 
-abbrev pub rx_window : RxModeCode → ℕ
-rx_window (Named (Single n)) = window n
-rx_window (Named Continuous) = 0
-rx_window (Named DutyCycle) = 0
-rx_window NoCase = 0
+abbrev pub rx_window : Result RxMode RadioError → ℕ
+rx_window (Ok (Single n)) = window n
+rx_window (Ok Continuous) = 0
+rx_window (Ok DutyCycle) = 0
+rx_window (Err e) = 0
 
-abbrev pub rx_op_mode : RxModeCode → ℕ
-rx_op_mode (Named (Single n)) = op_mode 6
-rx_op_mode (Named Continuous) = op_mode 5
-rx_op_mode (Named DutyCycle) = op_mode 5
-rx_op_mode NoCase = op_mode 5
+abbrev pub rx_op_mode : Result RxMode RadioError → ℕ
+rx_op_mode (Ok (Single n)) = op_mode 6
+rx_op_mode (Ok Continuous) = op_mode 5
+rx_op_mode (Ok DutyCycle) = op_mode 5
+rx_op_mode (Err e) = op_mode 5
 
 -- ---- the calls
 
 abbrev pub set_standby : List ℕ → List ℕ → ℕ → Outcome
-set_standby = call Clear well standby
+set_standby = call (Ok tt) well standby
 
 abbrev pub set_sleep : List ℕ → List ℕ → ℕ → Outcome
-set_sleep = call Clear well sleep
+set_sleep = call (Ok tt) well sleep
 
 abbrev pub reset : List ℕ → List ℕ → ℕ → Outcome
-reset = call Clear well resetting
+reset = call (Ok tt) well resetting
 
 abbrev pub do_tx : List ℕ → List ℕ → ℕ → Outcome
-do_tx = call Clear well transmission
+do_tx = call (Ok tt) well transmission
 
 abbrev pub do_cad : Bool → List ℕ → List ℕ → ℕ → Outcome
-do_cad boost = call Clear well (detecting boost)
+do_cad boost = call (Ok tt) well (detecting boost)
 
-abbrev pub do_rx_as : Bool → RxModeCode → List ℕ → List ℕ → ℕ → Outcome
+abbrev pub do_rx_as : Bool → Result RxMode RadioError → List ℕ → List ℕ → ℕ → Outcome
 do_rx_as boost m = call (rx_refusal m) well (reception boost (rx_window m) (rx_op_mode m))
 
 abbrev pub do_rx : Bool → ℕ → ℕ → List ℕ → List ℕ → ℕ → Outcome

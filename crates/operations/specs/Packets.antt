@@ -1,12 +1,11 @@
 -- `set_payload`, `get_rx_payload`, `get_rx_packet_status`.
-use Rattle.std.specs.Prelude.{Bool, true, false, List, [], ◌∷◌, ℕ, leb, length, get_or, pos}
+use Rattle.std.specs.Prelude.{Bool, true, false, List, [], ◌∷◌, ℕ, leb, length, get_or, pos, Ok}
 use Rattle.sheets.specs.declared.Variant.{Variant}
 use Rattle.sheets.specs.declared.Variant.TheVariants.{Sx1272, Sx1276}
 use Rattle.sheets.specs.Registers.{reg_fifo_addr_ptr, reg_payload_length, reg_rx_nb_bytes, reg_fifo_rx_current_addr, reg_pkt_snr_value, reg_pkt_rssi_value, reg_frf_msb, reg_frf_mid, reg_frf_lsb}
 use Rattle.sheets.specs.Frequency.{frf}
 use Rattle.sheets.specs.Signal.{snr, offset, rssi}
 use Rattle.params.specs.declared.mod_params.RadioError.TheVariants.{PayloadSizeMismatch}
-use Rattle.params.specs.declared.mod_params.Verdict.TheVariants.{Clear}
 use Rattle.params.specs.Errors.{Told, told, refusal}
 use Rattle.refusals.specs.Refusals.{payload_length}
 use Rattle.bus.specs.Steps.{Step, Read, Write, FifoRead, FifoWrite, end_after}
@@ -47,7 +46,7 @@ abbrev pub get_payload : List ℕ → List ℕ → List ℕ → List ℕ → ℕ
 get_payload im fifo log buffer used =
     let n = received im in
     let fits = leb n (length buffer) in
-    settled (admitted_fifo Clear (end_after (fetching (start_of im) n) im used) im fifo log used)
+    settled (admitted_fifo (Ok tt) (end_after (fetching (start_of im) n) im used) im fifo log used)
     (fetch_told fits n (length buffer)) (fetch_steps fits (start_of im) n) im fifo log buffer used
 
 -- ---- its signal
@@ -68,4 +67,4 @@ measured v im =
     told 0 (rssi (offset v (tuned im)) (get_or im reg_pkt_snr_value 0) (get_or im reg_pkt_rssi_value 0) ∷ snr (get_or im reg_pkt_snr_value 0) ∷ [])
 
 abbrev pub get_status : Variant → List ℕ → List ℕ → ℕ → Outcome
-get_status v im = call Clear (measured v im) (measuring v) im
+get_status v im = call (Ok tt) (measured v im) (measuring v) im

@@ -1,11 +1,10 @@
 -- `init_lora`, `set_tx_rx_buffer_base_address`, `set_channel`.
-use Rattle.std.specs.Prelude.{Bool, true, false, List, [], ◌∷◌, ◌++◌, ℕ}
+use Rattle.std.specs.Prelude.{Bool, true, false, List, [], ◌∷◌, ◌++◌, ℕ, Ok}
 use Rattle.sheets.specs.declared.Variant.{Variant}
 use Rattle.sheets.specs.Bits.{at}
 use Rattle.sheets.specs.Registers.{reg_tcxo, tcxo_input_on, reg_sync_word, reg_fifo_tx_base_addr, reg_fifo_rx_base_addr, reg_frf_msb, reg_frf_mid, reg_frf_lsb}
 use Rattle.sheets.specs.Frequency.{steps, frf_msb, frf_mid, frf_lsb}
 use Rattle.sheets.specs.Modem.{sync_word}
-use Rattle.params.specs.declared.mod_params.Verdict.TheVariants.{Clear}
 use Rattle.params.specs.declared.board.Board.{Board}
 use Rattle.refusals.specs.Refusals.{flag, base_addresses}
 use Rattle.bus.specs.Steps.{Step, Write}
@@ -39,4 +38,4 @@ abbrev pub set_bases : ℕ → ℕ → List ℕ → List ℕ → ℕ → Outcome
 set_bases tx rx = call (base_addresses tx rx) well bases
 
 abbrev pub set_channel : ℕ → List ℕ → List ℕ → ℕ → Outcome
-set_channel hz = call Clear well (channel hz)
+set_channel hz = call (Ok tt) well (channel hz)

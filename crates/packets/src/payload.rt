@@ -1,48 +1,32 @@
 // A payload to send: `set_payload`.
-ghost use Rattle.std.specs.Prelude.{◌≡◌, ◌+◌, ◌≤◌, ◌<◌, length};
-ghost use Rattle.params.specs.Answers.{tells_done, used_done};
-ghost use Rattle.bus.specs.Steps.{Done, fifo_after};
+ghost use Rattle.std.specs.Prelude.{◌≡◌, ◌<◌, length};
+ghost use Rattle.params.specs.Answers.{tells_done};
+ghost use Rattle.bus.specs.Steps.{fifo_after};
 ghost use Rattle.bus.specs.Call.{Meets};
+ghost use Rattle.bus.specs.Lent.{Room, Same, Did};
 ghost use Rattle.operations.specs.Packets.{sending, set_payload};
 
-use bus::admit::admit_fifo;
-use bus::fifo::write_buffer;
-use bus::write_register;
-use params::answers::Answer;
-use params::mod_params::Verdict;
+use bus::Radio;
+use params::mod_params::RadioError;
 use params::radio_kind_params::Register;
 
-fn write_payload(
-    image: &mut [u8],
-    fifo: &mut [u8],
-    log: &mut [u8],
-    at: usize,
-    payload: &[u8],
-) -> usize
-    requires at_in_bounds { (at + 12 ≤ length log.old) × (length image.old ≡ 128) }
-    requires fifo_len { (length fifo.old ≡ 256) × (length payload.now < 256) }
-    ensures done { Done (sending payload.now) image.old log.old at result image.new log.new }
-    ensures fifo_after { fifo.new ≡ fifo_after (sending payload.now) image.old fifo.old }
+fn write_payload(radio: &mut Radio<'_>, fifo: &mut [u8], payload: &[u8])
+    requires { Room 4 radio.old × (length fifo.old ≡ 256) × (length payload.now < 256) }
+    ensures done { Did (sending payload.now) radio.old radio.new }
+    ensures fifo_after { fifo.new ≡ fifo_after (sending payload.now) radio.old.image.now fifo.old }
 {
     let length = payload.len() as u8;
-    let at = write_register(image, log, at, Register::RegFifoAddrPtr, 0x00);
-    let at = write_register(image, log, at, Register::RegPayloadLength, 0x00);
-    let at = write_buffer(image, fifo, log, at, payload);
-    write_register(image, log, at, Register::RegPayloadLength, length)
+    radio.write_register(Register::RegFifoAddrPtr, 0x00);
+    radio.write_register(Register::RegPayloadLength, 0x00);
+    radio.write_buffer(fifo, payload);
+    radio.write_register(Register::RegPayloadLength, length);
 }
 
-pub fn set_payload(
-    image: &mut [u8],
-    fifo: &mut [u8],
-    log: &mut [u8],
-    used: usize,
-    payload: &[u8],
-) -> Answer
-    ensures { Meets (set_payload payload.now image.old fifo.old log.old used) (tells_done result) (used_done result) image.new fifo.new log.new payload.now }
+pub fn set_payload(radio: &mut Radio<'_>, fifo: &mut [u8], payload: &[u8]) -> Result<(), RadioError>
+    ensures same { Same radio.old radio.new }
+    ensures meets { Meets (set_payload payload.now radio.old.image.now fifo.old radio.old.log.now radio.old.used) (tells_done result) radio.new.used radio.new.image.now fifo.new radio.new.log.now payload.now }
 {
-    let asked = refusals::payload_length(payload.len());
-    match admit_fifo(image, fifo, log, used, asked, 4) {
-        Verdict::Refused(e) => Answer::Refused(e, used),
-        Verdict::Clear => Answer::Done(write_payload(image, fifo, log, used, payload)),
-    }
+    radio.admit_fifo(fifo, refusals::payload_length(payload.len()), 4)?;
+    write_payload(radio, fifo, payload);
+    Ok(())
 }

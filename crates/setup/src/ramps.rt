@@ -21,6 +21,5 @@ fn ramp_time(is_tx_prep: u8) -> RampTime
 pub fn ramp_value(variant: Variant, is_tx_prep: u8) -> u8
     ensures { result ≡ pa_ramp variant (ramp_code is_tx_prep) }
 {
-    let ramp_time = ramp_time(is_tx_prep);
-    ramp_bit(variant) + ramp_time.value()
+    ramp_bit(variant) + ramp_time(is_tx_prep).value()
 }

@@ -9,6 +9,8 @@ const PA_DAC_20DBM_ON: u8 = 0x87;
 
 const PA_DAC_20DBM_OFF: u8 = 0x84;
 
+// By hand: the library's `clamp` wants a range that is none where the least is above the most, and what was built with `p.min(most)` in
+// the second test's place answered -1 for clamp(-4, -4, -1).
 pub fn clamp(p: i32, least: i32, most: i32) -> i32
     ensures { result ≡ bounded least most p }
 {
@@ -48,14 +50,7 @@ pub fn strong(variant: Variant, p_out: i32, tx_boost: bool) -> bool
     ensures { result ≡ strong tx_boost (clamped variant tx_boost p_out) }
 {
     let txp = clamped_power(variant, p_out, tx_boost);
-    if tx_boost {
-        match txp {
-            18..=20 => true,
-            _ => false,
-        }
-    } else {
-        false
-    }
+    tx_boost && matches!(txp, 18..=20)
 }
 
 // RegPaDac, which is the same on both variants.

@@ -1,12 +1,11 @@
 -- Laws of calls: what a clear verdict says, and that an outcome allows one result only.
 -- Assumes nothing.
+use Rattle.std.specs.Prelude.{Ok, Err}
 use Rattle.std.proofs.Common.{◌≡◌, ℕ, ◌+◌, ◌*◌, ◌%◌, ◌≤◌, ◌&&◌, eqb, leb, List, [], ◌∷◌, length, sym, refl, ◌∙◌, eqb→eq, leb→le}
 use Rattle.sheets.proofs.Sweep.{both}
 use Rattle.params.specs.declared.mod_params.RadioError.{RadioError}
 use Rattle.params.specs.declared.mod_params.RadioError.TheVariants.{BadImage, LogFull}
-use Rattle.params.specs.declared.mod_params.Verdict.{Verdict}
-use Rattle.params.specs.declared.mod_params.Verdict.TheVariants.{Clear, Refused}
-use Rattle.params.specs.Errors.{Told, refusal, or}
+use Rattle.params.specs.Errors.{Verdict, Told, refusal, or}
 use Rattle.refusals.specs.Refusals.{unless}
 use Rattle.refusals.proofs.Clear.{passes, both_clear}
 use Rattle.bus.specs.Access.{Access, read, write, fifo_read, fifo_write, rf_switch, reset_pin, sleep_write, laid, fifo_by}
@@ -17,11 +16,11 @@ use Rattle.bus.specs.Call.{formed, formed_fifo, admitted, admitted_fifo, Outcome
 
 -- What a call that is admitted may count on.
 pub record Room (asked : Verdict) (end : ℕ) (im log : List ℕ) : Type 0 where
-  pub clear : asked ≡ Clear
+  pub clear : asked ≡ (Ok tt)
   pub whole : length im ≡ 128
   pub room : end ≤ length log
 
-pub admitted→room : (asked : Verdict) (end : ℕ) (im log : List ℕ) (used : ℕ) → admitted asked end im log used ≡ Clear → Room asked end im log
+pub admitted→room : (asked : Verdict) (end : ℕ) (im log : List ℕ) (used : ℕ) → admitted asked end im log used ≡ (Ok tt) → Room asked end im log
 unfolding admitted
 admitted→room asked end im log used p =
     let q = both_clear (unless (formed im log used) BadImage) (or asked (unless (leb end (length log)) LogFull)) p in
@@ -30,7 +29,7 @@ admitted→room asked end im log used p =
     record { clear = r.0; whole = eqb→eq (length im) 128 f.0; room = leb→le end (length log) (passes (leb end (length log)) LogFull r.1) }
 
 pub admitted_fifo→room : (asked : Verdict) (end : ℕ) (im fifo log : List ℕ) (used : ℕ)
-    → admitted_fifo asked end im fifo log used ≡ Clear → (length fifo ≡ 256) × Room asked end im log
+    → admitted_fifo asked end im fifo log used ≡ (Ok tt) → (length fifo ≡ 256) × Room asked end im log
 unfolding admitted_fifo
 admitted_fifo→room asked end im fifo log used p =
     let q = both_clear (unless (formed_fifo fifo) BadImage) (admitted asked end im log used) p in
@@ -75,18 +74,18 @@ pub record Operation : Type 0 where
 
 -- What follows from `admit`'s verdict v: the outcome of a refusal, the room of a call that goes on, and its outcome once its steps are done.
 pub record Decided (o : Operation) (im log : List ℕ) (used : ℕ) (v : Verdict) : Type 0 where
-  pub refused : {e : RadioError} → v ≡ Refused e → Meets (call o.asked o.tells o.steps im log used) (refusal e) used im [] log []
-  pub room : v ≡ Clear → Room o.asked (used + 3 * o.records) im log
-  pub done : {r : ℕ} {im' log' : List ℕ} → v ≡ Clear → Done o.steps im log used r im' log'
+  pub refused : {e : RadioError} → v ≡ Err e → Meets (call o.asked o.tells o.steps im log used) (refusal e) used im [] log []
+  pub room : v ≡ (Ok tt) → Room o.asked (used + 3 * o.records) im log
+  pub done : {r : ℕ} {im' log' : List ℕ} → v ≡ (Ok tt) → Done o.steps im log used r im' log'
       → Meets (call o.asked o.tells o.steps im log used) o.tells r im' [] log' []
 
 -- v is what `admit` decided, given a refusal and a count of records that are the operation's
 pub decided : (o : Operation) (im log : List ℕ) (used : ℕ) {v asked : Verdict} {n : ℕ} → asked ≡ o.asked → n ≡ o.records
     → v ≡ admitted asked (used + 3 * n) im log used → Decided o im log used v
 decided o im log used {v} same count is = record {
-  refused = λ {e} g. rw (by_verdict (Refused e) g) (record { answers = refl; ends = refl; leaves = refl; holds = refl; logs = refl; fills = refl });
-  room = λ g. admitted→room o.asked (used + 3 * o.records) im log used (rw (o.makes im used) at (by_verdict Clear g));
-  done = λ g d. rw (by_verdict Clear g) (record { answers = refl; ends = d.ends; leaves = d.stored; holds = sym (no_fifo o.steps im); logs = d.logged; fills = sym (o.quiet im) });
+  refused = λ {e} g. rw (by_verdict (Err e) g) (record { answers = refl; ends = refl; leaves = refl; holds = refl; logs = refl; fills = refl });
+  room = λ g. admitted→room o.asked (used + 3 * o.records) im log used (rw (o.makes im used) at (by_verdict (Ok tt) g));
+  done = λ g d. rw (by_verdict (Ok tt) g) (record { answers = refl; ends = d.ends; leaves = d.stored; holds = sym (no_fifo o.steps im); logs = d.logged; fills = sym (o.quiet im) });
 }
   where
     by_verdict : (w : Verdict) → v ≡ w → admitted o.asked (end_after o.steps im used) im log used ≡ w

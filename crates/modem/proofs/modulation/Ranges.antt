@@ -1,5 +1,6 @@
 -- What a modulation that is not refused has: numbers in the range of their fields.
 -- Assumes nothing.
+use Rattle.std.specs.Prelude.{Ok}
 use mathlib.Core.Path.{◌≡◌, refl}
 use mathlib.Core.Bool.{Bool, true, false, cond}
 use Prim.Native.Nat.{ℕ, ◌≤◌}
@@ -11,7 +12,6 @@ use Rattle.sheets.specs.Modem.{bandwidth_codes, has_bandwidth}
 use Rattle.sheets.proofs.Sweep.{at}
 use Rattle.params.specs.declared.mod_params.ModulationParams.{ModulationParams}
 use Rattle.params.specs.declared.mod_params.RadioError.TheVariants.{UnavailableBandwidth}
-use Rattle.params.specs.declared.mod_params.Verdict.TheVariants.{Clear}
 use Rattle.params.specs.Errors.{or}
 use Rattle.refusals.specs.Refusals.{spreading_factor, bandwidth, coding_rate, flag, spreading_factor_value, bandwidth_value}
 use Rattle.refusals.proofs.Clear.{passes, both_clear, named_clear}
@@ -22,9 +22,9 @@ pub record InRange (v : Variant) (p : ModulationParams) : Type 0 where
   pub bw : p.bandwidth ≤ 9
   pub cr : p.coding_rate ≤ 4
   pub ldro : p.low_data_rate_optimize ≤ 1
-  pub has : bandwidth_value v p.bandwidth ≡ Clear
+  pub has : bandwidth_value v p.bandwidth ≡ (Ok tt)
 
-pub in_range : (v : Variant) (p : ModulationParams) → modulation_refusal v p ≡ Clear → InRange v p
+pub in_range : (v : Variant) (p : ModulationParams) → modulation_refusal v p ≡ (Ok tt) → InRange v p
 in_range v p c =
     let named = spreading_factor p.spreading_factor in
     let others = or (bandwidth p.bandwidth) (coding_rate p.coding_rate) in
@@ -46,7 +46,7 @@ true_by true t = refl
 true_by false t = absurd t
 
 -- the SX1272 has no bandwidth below 125 kHz
-pub from_125 : (bw : ℕ) → bw ≤ 9 → bandwidth_value Sx1272 bw ≡ Clear → 7 ≤ bw
+pub from_125 : (bw : ℕ) → bw ≤ 9 → bandwidth_value Sx1272 bw ≡ (Ok tt) → 7 ≤ bw
 unfolding bandwidth_codes
 from_125 bw h c =
     let has = true_by (has_bandwidth Sx1272 bw) (passes (has_bandwidth Sx1272 bw) UnavailableBandwidth c) in

@@ -1,16 +1,11 @@
 -- The bytes passed stand in the buffer, and what is left to read gives the whole burst.
-use Rattle.std.proofs.Common.{◌≡◌, ◌+◌, ◌-◌, ◌%◌, ◌≤◌, ◌++◌, length, take, drop}
+use Rattle.std.proofs.Common.{◌≡◌, ◌+◌, ◌-◌, ◌%◌, ◌++◌, length, take}
 use Rattle.bus.specs.Access.{taken}
 use Rattle.bus.proofs.bursts.burst_read.Given as goal
 
-abbrev pub invariant-loop-i : goal.invariant-loop-i
-invariant-loop-i l = record {
-  within : l.i ≤ l.count;
-  size : length l.buf ≡ length l.initial.buf;
-  place : l.from ≡ (l.initial.from + l.i) % 256;
-  left : take l.i l.buf ++ (taken l.from (l.count - l.i) l.fifo ++ drop l.count l.buf)
-      ≡ taken l.initial.from l.count l.fifo ++ drop l.count l.initial.buf;
+abbrev pub invariant-loop-place : goal.invariant-loop-place
+invariant-loop-place l = record {
+  size : length l.place-items ≡ l.count;
+  place : l.from ≡ (l.initial.from + l.place-index) % 256;
+  left : take l.place-index l.place-items ++ taken l.from (l.count - l.place-index) l.fifo ≡ taken l.initial.from l.count l.fifo;
 }
-
-abbrev pub decreases-loop-i : goal.decreases-loop-i
-decreases-loop-i l = l.count - l.i
