@@ -1,5 +1,6 @@
 -- What acceptance says of a link's numbers: `omega` can read it so.
 -- Assumes nothing.
+use Rattle.std.specs.Prelude.{Ok, Err}
 use mathlib.Core.Path.{◌≡◌, refl, sym, subst}
 use mathlib.Core.Logic.{◌↔◌}
 use mathlib.Core.Bool.{Bool, true, false, not, ◌&&◌}
@@ -15,10 +16,9 @@ use Rattle.sheets.proofs.Sweep.{both, joined, alike}
 use Rattle.params.specs.declared.mod_params.Link.{Link}
 use Rattle.params.specs.declared.mod_params.RadioError.{RadioError}
 use Rattle.params.specs.declared.mod_params.RadioError.TheVariants.{InvalidConfiguration, UnavailableSpreadingFactor, UnavailableBandwidth, InvalidBandwidthForFrequency, InvalidSF6ExplicitHeaderRequest, FrequencyOutOfRange}
-use Rattle.params.specs.declared.mod_params.Verdict.{Verdict}
-use Rattle.params.specs.declared.mod_params.Verdict.TheVariants.{Clear, Refused}
 use Rattle.refusals.specs.Refusals.{unless, named, first, link_verdicts, link_refusal}
 use Rattle.page.specs.Links.{clear, accepted}
+use Rattle.params.specs.Errors.{Verdict}
 
 -- ---- a row of verdicts is clear exactly when each is
 
@@ -28,8 +28,8 @@ Each (v ∷ vs) = T (clear v) × Each vs
 
 each : (vs : List Verdict) → T (clear (first vs)) ↔ Each vs
 each [] = ((λ t. tt), (λ e. tt))
-each (Clear ∷ vs) = let (forth, back) = each vs in ((λ t. (tt, forth t)), (λ e. back e.1))
-each (Refused e ∷ vs) = ((λ t. absurd t), (λ h. h.0))
+each ((Ok tt) ∷ vs) = let (forth, back) = each vs in ((λ t. (tt, forth t)), (λ e. back e.1))
+each (Err e ∷ vs) = ((λ t. absurd t), (λ h. h.0))
 
 granted : (b : Bool) (e : RadioError) → T (clear (unless b e)) ↔ T b
 granted true e = ((λ t. tt), (λ t. tt))
@@ -160,10 +160,10 @@ module _ (v : Variant) (l : Link) where
       (lt→ltb l.preamble_length 65536 h.preamble)
 
 -- nothing refuses an accepted link
-pub accepted_clear : (v : Variant) (l : Link) → T (accepted v l) → link_refusal v l ≡ Clear
+pub accepted_clear : (v : Variant) (l : Link) → T (accepted v l) → link_refusal v l ≡ (Ok tt)
 unfolding accepted
 accepted_clear v l h = by (link_refusal v l) (both (clear (link_refusal v l)) (ltb l.preamble_length 65536) h).0
   where
-    by : (w : Verdict) → T (clear w) → w ≡ Clear
-    by Clear t = refl
-    by (Refused e) t = absurd t
+    by : (w : Verdict) → T (clear w) → w ≡ (Ok tt)
+    by (Ok tt) t = refl
+    by (Err e) t = absurd t

@@ -1,17 +1,17 @@
 -- The place of each register of LoRa's page, found by its address, and what a register that is no place is left as.
 -- Assumes nothing.
-use mathlib.Core.Path.{◌≡◌, refl, sym, subst}
-use mathlib.Core.Bool.{Bool, true, false, not, cond, ◌&&◌}
+use mathlib.Core.Path.{◌≡◌, refl, sym, ap, subst, ◌∙◌}
+use mathlib.Core.Bool.{Bool, true, false, cond, ◌&&◌}
 use mathlib.Core.List.{List, [], ◌∷◌, ◌++◌}
 use Prim.Native.Nat.{ℕ, ◌<◌}
 use borrow.Author.Tests.{ne_eqb, eqb-true}
-use lib.Dec.{T, eqb, lt→ltb}
+use lib.Dec.{T, eqb}
 use Rattle.sheets.specs.declared.Variant.{Variant}
 use Rattle.sheets.specs.declared.Variant.TheVariants.{Sx1272, Sx1276}
-use Rattle.sheets.proofs.Sweep.{both, joined}
+use Rattle.sheets.proofs.Sweep.{both}
 use Rattle.params.specs.declared.mod_params.Link.{Link}
 use Rattle.params.specs.declared.board.Board.{Board}
-use Rattle.page.specs.Page.{Place, written, find, free, Outside}
+use Rattle.page.specs.Page.{Place, nowhere, written, find, pick, free, Outside}
 use Rattle.page.specs.Lora as L
 use Rattle.page.specs.Lora.{places, places_of}
 use Rattle.page.proofs.Find.{find_free}
@@ -98,12 +98,12 @@ abbrev pub among : List ℕ → List (Place Link) → Bool
 among es [] = true
 among es (p ∷ ps) = member p.addr es && among es ps
 
-outside_free : (es : List ℕ) (a : ℕ) → a < 128 → Outside es a → (ps : List (Place Link)) → T (among es ps) → T (free a ps)
-outside_free es a h o [] m = lt→ltb a 128 h
-outside_free es a h o (p ∷ ps) m =
+find_outside : (es : List ℕ) (a : ℕ) → Outside es a → (ps : List (Place Link)) → T (among es ps) → find a ps ≡ nowhere
+find_outside es a o [] m = refl
+find_outside es a o (p ∷ ps) m =
     let k = both (member p.addr es) (among es ps) m in
     let other : a ≡ p.addr → ⊥ = λ e. not_member es a o (subst (λ (x : ℕ). T (member x es)) (sym e) k.0) in
-    joined (not (eqb a p.addr)) (free a ps) (rw (ne_eqb a p.addr other) tt) (outside_free es a h o ps k.1)
+    ap (λ (t : Bool). pick t p (find a ps)) (ne_eqb a p.addr other) ∙ find_outside es a o ps k.1
 
 -- ---- registers that are no place
 
@@ -111,5 +111,5 @@ module _ (ps : List (Place Link)) (a : ℕ) (l : Link) (old : ℕ) (h : old < 25
   pub unused : T (free a ps) → old ≡ written (find a ps) l old
   unused f = rw (find_free a ps f) (kept_byte old h)
 
-  pub outside : (es : List ℕ) → a < 128 → Outside es a → T (among es ps) → old ≡ written (find a ps) l old
-  outside es k o m = unused (outside_free es a k o ps m)
+  pub outside : (es : List ℕ) → Outside es a → T (among es ps) → old ≡ written (find a ps) l old
+  outside es o m = rw (find_outside es a o ps m) (kept_byte old h)

@@ -1,13 +1,12 @@
 -- Links: which of them a board accepts, and the one that stands for all that leave the same image.
-use Rattle.std.specs.Prelude.{Bool, true, false, ◌&&◌, ℕ, T, ltb, ℤ}
+use Rattle.std.specs.Prelude.{Bool, true, false, ◌&&◌, ℕ, T, ltb, ℤ, Ok, Err}
 use Rattle.sheets.specs.declared.Variant.{Variant}
 use Rattle.sheets.specs.Frequency.{steps, lowest}
 use Rattle.sheets.specs.Power.{clamped}
 use Rattle.params.specs.declared.mod_params.Link.{Link}
-use Rattle.params.specs.declared.mod_params.Verdict.{Verdict}
-use Rattle.params.specs.declared.mod_params.Verdict.TheVariants.{Clear, Refused}
 use Rattle.params.specs.declared.board.Board.{Board}
 use Rattle.refusals.specs.Refusals.{link_refusal}
+use Rattle.params.specs.Errors.{Verdict}
 
 abbrev pub link : (public sf bw cr hz preamble implicit crc iq : ℕ) → ℤ → Link
 link public sf bw cr hz preamble implicit crc iq power = record {
@@ -24,8 +23,8 @@ link public sf bw cr hz preamble implicit crc iq power = record {
 }
 
 abbrev pub clear : Verdict → Bool
-clear Clear = true
-clear (Refused e) = false
+clear (Ok tt) = true
+clear (Err e) = false
 
 -- none of 8, 14 to 17 and 23 refuses the link, whose preamble is a number of 16 bits, as every call takes it
 unfoldable pub accepted : Variant → Link → Bool

@@ -1,8 +1,7 @@
 -- What refuses a link, in two parts: codes that name no case, and what a board has not.
 use Rattle.sheets.specs.declared.Variant.{Variant}
 use Rattle.params.specs.declared.mod_params.Link.{Link}
-use Rattle.params.specs.declared.mod_params.Verdict.{Verdict}
-use Rattle.params.specs.Errors.{or}
+use Rattle.params.specs.Errors.{Verdict, or}
 use Rattle.refusals.specs.Refusals.{flag, bandwidth_for_frequency, header_for_spreading_factor, frequency_range}
 use Rattle.operations.specs.Modem.{modulation_named, modulation_had, packet_named}
 

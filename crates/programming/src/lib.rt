@@ -1,30 +1,24 @@
 // Whole programming of a link: it is refused, or its steps are done; and the byte that it leaves in one register.
-#![tactic(auto)]
+#![tactic(auto, using(bus::proofs::admit::Calls::rooms))]
 
-ghost use Rattle.std.specs.Prelude.{[]};
-ghost use Rattle.params.specs.Answers.{tells_done, used_done};
-ghost use Rattle.bus.specs.Call.{Meets};
+ghost use Rattle.params.specs.Answers.{tells_done};
+ghost use Rattle.bus.specs.Lent.{Calls};
 ghost use Rattle.operations.specs.Programming.{program_link};
 
-use crate::acceptance::link_refusal;
-use crate::writes::write_link;
-use bus::admit::admit;
-use params::answers::Answer;
+use crate::acceptance::{AcceptedLink, link_refusal};
+use bus::Radio;
 use params::board::Board;
-use params::mod_params::{Link, Verdict};
+use params::mod_params::{Link, RadioError};
 use variants::records::program_records;
 
 pub mod acceptance;
 pub mod bytes_left;
 pub mod writes;
 
-pub fn program(image: &mut [u8], log: &mut [u8], used: usize, board: Board, link: Link) -> Answer
-    ensures { Meets (program_link board link image.old log.old used) (tells_done result) (used_done result) image.new [] log.new [] }
+pub fn program(radio: &mut Radio<'_>, board: Board, link: Link) -> Result<(), RadioError>
+    ensures { Calls (program_link board link) (tells_done result) radio.old radio.new }
 {
-    let variant = board.variant;
-    let asked = link_refusal(variant, link);
-    match admit(image, log, used, asked, program_records(board)) {
-        Verdict::Refused(e) => Answer::Refused(e, used),
-        Verdict::Clear => Answer::Done(write_link(image, log, used, board, link)),
-    }
+    radio.admit(link_refusal(board.variant, link), program_records(board))?;
+    AcceptedLink { board, link }.write(radio);
+    Ok(())
 }

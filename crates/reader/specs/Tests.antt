@@ -1,5 +1,5 @@
 -- What the reader asks of a register: whether a link leaves the byte there as it is, and what it tells of the link.
-use Rattle.std.specs.Prelude.{Bool, ◌&&◌, List, [], ◌∷◌, ℕ, eqb, length, get_or}
+use Rattle.std.specs.Prelude.{Bool, List, [], ◌∷◌, ℕ, eqb, length, get_or}
 use Rattle.sheets.specs.Reader.{reader_order}
 use Rattle.params.specs.declared.mod_params.Link.{Link}
 use Rattle.params.specs.declared.board.Board.{Board}
@@ -13,9 +13,6 @@ registers b = length (reader_order b.variant b.tcxo_used)
 -- the link leaves the byte at an address as it is
 unfoldable pub keeps : Board → Link → ℕ → List ℕ → Bool
 keeps b l a im = eqb (written (find a (places_of b)) l (get_or im a 0)) (get_or im a 0)
-
-abbrev pub keeps_four : Board → Link → (a b c d : ℕ) → List ℕ → Bool
-keeps_four board l a b c d im = keeps board l a im && (keeps board l b im && (keeps board l c im && keeps board l d im))
 
 -- what these registers tell, one after the other
 abbrev pub learnt : List (Place Link) → List ℕ → List ℕ → Link → Link

@@ -9,10 +9,7 @@ fn rfo_shown_sx1272(output: u8) -> i32
     requires { output < 16 }
     ensures { result ≡ (pos output -ℤ pos 1) }
 {
-    match output {
-        0 => -1,
-        _ => (output - 1) as i32,
-    }
+    output as i32 - 1
 }
 
 // RFO of the SX1276: below 0 dBm the Rust writes a negative byte.
@@ -32,19 +29,11 @@ fn rfo_shown_sx1276(value: u8) -> i32
 pub fn power_shown(variant: Variant, tx_boost: bool, value: u8) -> i32
     ensures { result ≡ shown variant tx_boost value }
 {
-    match variant {
-        Variant::Sx1272 => {
-            if tx_boost {
-                return (value % 16 + 2) as i32;
-            }
-            rfo_shown_sx1272(value % 16)
-        }
-        Variant::Sx1276 => {
-            if tx_boost {
-                return (value % 32 + 2) as i32;
-            }
-            rfo_shown_sx1276(value)
-        }
+    match (variant, tx_boost) {
+        (Variant::Sx1272, false) => rfo_shown_sx1272(value % 16),
+        (Variant::Sx1272, true) => (value % 16 + 2) as i32,
+        (Variant::Sx1276, false) => rfo_shown_sx1276(value),
+        (Variant::Sx1276, true) => (value % 32 + 2) as i32,
     }
 }
 
@@ -52,13 +41,9 @@ pub fn power_shown(variant: Variant, tx_boost: bool, value: u8) -> i32
 pub fn power_shown_with(tx_boost: bool, value: u8, dac: u8) -> i32
     ensures { result ≡ shown_with Variant.Sx1272 tx_boost value dac }
 {
-    if tx_boost {
-        if dac % 8 == 7 {
-            (value % 16 + 5) as i32
-        } else {
-            (value % 16 + 2) as i32
-        }
-    } else {
-        rfo_shown_sx1272(value % 16)
+    match (tx_boost, dac % 8) {
+        (false, _) => rfo_shown_sx1272(value % 16),
+        (true, 7) => (value % 16 + 5) as i32,
+        (true, _) => (value % 16 + 2) as i32,
     }
 }

@@ -16,13 +16,12 @@ use tx_power::sx1272;
 pub fn blank() -> Link
     ensures { result ≡ blank }
 {
-    let frequency = Hertz(0);
     Link {
         public_network: 0,
         spreading_factor: 7,
         bandwidth: 7,
         coding_rate: 1,
-        frequency,
+        frequency: Hertz(0),
         preamble_length: 0,
         implicit_header: 0,
         crc_on: 0,
@@ -36,39 +35,39 @@ fn tuned(guess: Link, count: Steps) -> Link
     requires { count.0 < 2 ^ 24 }
     ensures { result ≡ tuned count.0 guess }
 {
-    let frequency = count.lowest();
-    let mut link = guess;
-    link.bandwidth = 7;
-    link.frequency = frequency;
-    link
+    Link {
+        bandwidth: 7,
+        frequency: count.lowest(),
+        ..guess
+    }
 }
 
 fn powered(guess: Link, power: i32) -> Link
     ensures { result ≡ powered power guess }
 {
-    let mut link = guess;
-    link.power = power;
-    link
+    Link { power, ..guess }
 }
 
 fn announced(guess: Link, preamble_length: u16) -> Link
     ensures { result ≡ announced preamble_length guess }
 {
-    let mut link = guess;
-    link.preamble_length = preamble_length;
-    link
+    Link {
+        preamble_length,
+        ..guess
+    }
 }
 
 fn shaped(guess: Link, sf: u8, bw: u8, cr: u8, implicit_header: u8, crc_on: u8) -> Link
     ensures { result ≡ shaped sf bw cr implicit_header crc_on guess }
 {
-    let mut link = guess;
-    link.spreading_factor = sf;
-    link.bandwidth = bw;
-    link.coding_rate = cr;
-    link.implicit_header = implicit_header;
-    link.crc_on = crc_on;
-    link
+    Link {
+        spreading_factor: sf,
+        bandwidth: bw,
+        coding_rate: cr,
+        implicit_header,
+        crc_on,
+        ..guess
+    }
 }
 
 // RegFrf, a byte after the other: what the guess holds of the bytes before.
@@ -81,16 +80,14 @@ fn frf_msb(guess: Link, value: u8) -> Link
 fn frf_mid(guess: Link, value: u8) -> Link
     ensures { result ≡ frf_mid_place.learn value guess }
 {
-    let frequency = guess.frequency;
-    let count = frequency.steps();
+    let count = guess.frequency.steps();
     tuned(guess, Steps::from_frf(count.frf_msb(), value, 0))
 }
 
 fn frf_lsb(guess: Link, value: u8) -> Link
     ensures { result ≡ frf_lsb_place.learn value guess }
 {
-    let frequency = guess.frequency;
-    let count = frequency.steps();
+    let count = guess.frequency.steps();
     tuned(
         guess,
         Steps::from_frf(count.frf_msb(), count.frf_mid(), value),
@@ -100,8 +97,7 @@ fn frf_lsb(guess: Link, value: u8) -> Link
 fn pa_config(guess: Link, board: Board, value: u8) -> Link
     ensures { result ≡ (pa_config_place board.variant board.tx_boost).learn value guess }
 {
-    let variant = board.variant;
-    powered(guess, power_shown(variant, board.tx_boost, value))
+    powered(guess, power_shown(board.variant, board.tx_boost, value))
 }
 
 fn pa_dac(guess: Link, tx_boost: bool, value: u8) -> Link
@@ -128,38 +124,40 @@ fn config_1_sx1276(guess: Link, value: u8) -> Link
 fn config_2_sx1272(guess: Link, value: u8) -> Link
     ensures { result ≡ improved (config_2_place Variant.Sx1272) value guess }
 {
-    let mut link = guess;
-    link.spreading_factor = value / 16;
-    link
+    Link {
+        spreading_factor: value / 16,
+        ..guess
+    }
 }
 
 fn config_2_sx1276(guess: Link, value: u8) -> Link
     ensures { result ≡ improved (config_2_place Variant.Sx1276) value guess }
 {
-    let mut link = guess;
-    link.spreading_factor = value / 16;
-    link.crc_on = value / 4 % 2;
-    link
+    Link {
+        spreading_factor: value / 16,
+        crc_on: value / 4 % 2,
+        ..guess
+    }
 }
 
+#[tactic(auto, unfolding(page::specs::Lora::is))]
 fn invert_iq(guess: Link, value: u8) -> Link
     ensures { result ≡ invert_iq_place.learn value guess }
 {
-    let mut link = guess;
-    link.iq_inverted = if value == INVERT_IQ_RX { 1 } else { 0 };
-    link
+    Link {
+        iq_inverted: (value == INVERT_IQ_RX) as u8,
+        ..guess
+    }
 }
 
+#[tactic(auto, unfolding(page::specs::Lora::is))]
 fn sync_word(guess: Link, value: u8) -> Link
     ensures { result ≡ sync_word_place.learn value guess }
 {
-    let mut link = guess;
-    link.public_network = if value == LORA_MAC_PUBLIC_SYNCWORD {
-        1
-    } else {
-        0
-    };
-    link
+    Link {
+        public_network: (value == LORA_MAC_PUBLIC_SYNCWORD) as u8,
+        ..guess
+    }
 }
 
 fn config_1(guess: Link, variant: Variant, value: u8) -> Link
@@ -184,8 +182,7 @@ fn config_2(guess: Link, variant: Variant, value: u8) -> Link
 fn pa_dac_5a(guess: Link, board: Board, value: u8) -> Link
     ensures { result ≡ improved (find 0x5a (places_of board)) value guess }
 {
-    let variant = board.variant;
-    match variant {
+    match board.variant {
         Variant::Sx1272 => pa_dac(guess, board.tx_boost, value),
         Variant::Sx1276 => guess,
     }
@@ -195,14 +192,13 @@ fn pa_dac_5a(guess: Link, board: Board, value: u8) -> Link
 pub fn learn(guess: Link, board: Board, register: u8, value: u8) -> Link
     ensures { result ≡ improved (find register (places_of board)) value guess }
 {
-    let variant = board.variant;
     match register {
         0x06 => frf_msb(guess, value),
         0x07 => frf_mid(guess, value),
         0x08 => frf_lsb(guess, value),
         0x09 => pa_config(guess, board, value),
-        0x1d => config_1(guess, variant, value),
-        0x1e => config_2(guess, variant, value),
+        0x1d => config_1(guess, board.variant, value),
+        0x1e => config_2(guess, board.variant, value),
         0x20 => announced(guess, (value as u16) * 256),
         0x21 => announced(guess, guess.preamble_length / 256 * 256 + value as u16),
         0x33 => invert_iq(guess, value),

@@ -1,5 +1,5 @@
 -- `reader::examined` meets its contract: the registers before the last fit, and with it they do not, or they are all.
-use Rattle.std.proofs.Common.{◌≡◌, ℕ, ◌+◌, ◌<◌, T, Bool, true, List, length, get_or, take, ◌&&◌, sym, subst, ◌∙◌, add-one, below_more, arith}
+use Rattle.std.proofs.Common.{◌≡◌, ℕ, ◌+◌, ◌<◌, T, Bool, true, List, get_or, take, ◌&&◌, sym, subst, ◌∙◌, add-one, below_more, arith}
 use Rattle.sheets.specs.Reader.{reader_order}
 use Rattle.params.specs.declared.mod_params.Link.{Link}
 use Rattle.params.specs.declared.board.Board.{Board}
@@ -25,7 +25,6 @@ pub loop-i-init : goal.loop-i-init
 loop-i-init c =
     let a = c.args in
     record {
-      within = omega arith;
       so_far = c.blank-guess.ensures;
       fit = λ k h. let z : 0 ≡ k = omega arith in subst (Fit a.board a.image.now) z (begins a.board a.image.now);
     }
@@ -34,8 +33,7 @@ pub bounds-image-register : goal.bounds-image-register
 bounds-image-register c =
     let b = c.args.board in
     let h = order_le b.variant b.tcxo_used in
-    let e : length c.args.image.now ≡ 128 = omega arith in
-    rw (c.reader_order-register.ensures, e) (order_lt b.variant c.loop-i.i (omega arith))
+    rw c.reader_order-register.ensures (order_lt b.variant c.loop-i.i (omega arith))
 
 pub returns-then-not-fits : goal.returns-then-not-fits
 returns-then-not-fits c =
@@ -55,7 +53,6 @@ loop-i-preserved c =
     let guessed = next a.board a.image.now i _ c.loop-i.guess c.learn-guess.result (omega arith) c.reader_order-register.ensures c.loop-i.invariant.so_far c.learn-guess.ensures in
     let told = fit a.board a.image.now i _ c.loop-i.guess c.learn-guess.result (omega arith) c.reader_order-register.ensures c.loop-i.invariant.so_far c.learn-guess.ensures c.fits.result c.fits.ensures in
     record {
-      within = omega arith;
       so_far = guessed;
       fit = below_more _ _ c.loop-i.invariant.fit (subst T told (rw c.if-not-fits.false tt));
     }

@@ -1,6 +1,6 @@
 -- All registers at once: they hold a link exactly when each does, and the guess from them is what those tell that tell something.
 -- Assumes nothing.
-use mathlib.Core.Path.{◌≡◌, refl, sym, subst}
+use mathlib.Core.Path.{◌≡◌, refl, subst}
 use mathlib.Core.Bool.{Bool, true, false, cond, ◌&&◌}
 use mathlib.Core.List.{List, [], ◌∷◌}
 use Prim.Native.Nat.{ℕ, suc, ◌<◌}
@@ -19,15 +19,18 @@ use Rattle.page.proofs.Find.{find_own}
 use Rattle.page.proofs.Left.{kept_byte}
 use Rattle.page.proofs.Lawful.{lawful}
 use Rattle.page.proofs.Registers.{member, among}
-use Rattle.reader.specs.Tests.{keeps, keeps_four, learnt}
+use Rattle.reader.specs.Tests.{keeps, learnt}
 use Rattle.reader.proofs.SoFar.{same_test}
 
 -- ---- registers that are kept
 
--- the registers of either variant's order
+-- the registers of either variant's order, the first and the others
+abbrev others : List ℕ
+others =
+    0x07 ∷ 0x08 ∷ 0x09 ∷ 0x0a ∷ 0x0b ∷ 0x0e ∷ 0x0f ∷ 0x1d ∷ 0x1e ∷ 0x20 ∷ 0x21 ∷ 0x26 ∷ 0x31 ∷ 0x33 ∷ 0x37 ∷ 0x39 ∷ 0x3b ∷ 0x4b ∷ 0x4d ∷ 0x58 ∷ 0x5a ∷ []
+
 abbrev programmed : List ℕ
-programmed =
-    0x06 ∷ 0x07 ∷ 0x08 ∷ 0x09 ∷ 0x0a ∷ 0x0b ∷ 0x0e ∷ 0x0f ∷ 0x1d ∷ 0x1e ∷ 0x20 ∷ 0x21 ∷ 0x26 ∷ 0x31 ∷ 0x33 ∷ 0x37 ∷ 0x39 ∷ 0x3b ∷ 0x4b ∷ 0x4d ∷ 0x58 ∷ 0x5a ∷ []
+programmed = 0x06 ∷ others
 
 all_among : (v : Variant) (boost tcxo : Bool) → T (among programmed (places v boost tcxo))
 all_among Sx1272 boost true = tt
@@ -57,7 +60,7 @@ module _ (l : Link) (im : List ℕ) where
       by false e r = r
 
 -- the registers of a list, each kept
-abbrev pub Each : Board → Link → List ℕ → List ℕ → Type 0
+abbrev Each : Board → Link → List ℕ → List ℕ → Type 0
 Each b l im [] = Unit {0}
 Each b l im (a ∷ more) = T (keeps b l a im) × Each b l im more
 
@@ -70,34 +73,38 @@ module _ (b : Board) (l : Link) (im : List ℕ) where
       by true q r u = rw (eqb-true a e q) k.0
       by false q r u = r u
 
-  pub holds_all : Each b l im programmed → T (holds (places_of b) l im)
+  holds_all : Each b l im programmed → T (holds (places_of b) l im)
   unfolding keeps
   holds_all k =
       all l im (places_of b) programmed (of_each programmed k) (places_of b) (all_among b.variant b.tx_boost b.tcxo_used)
       (find_own (places_of b) (lawful b).own_places)
 
-  pub holds_any : Image im → T (holds (places_of b) l im) → (a : ℕ) → T (keeps b l a im)
+  holds_any : Image im → T (holds (places_of b) l im) → (a : ℕ) → T (keeps b l a im)
   unfolding keeps
   holds_any I t a = any l im (places_of b) t a (I.byte a)
 
-  -- four of them at once
-  module _ (a c d e : ℕ) where
-    pub together : T (keeps b l a im) → T (keeps b l c im) → T (keeps b l d im) → T (keeps b l e im) → T (keeps_four b l a c d e im)
-    together p q r s =
-        joined (keeps b l a im) (keeps b l c im && (keeps b l d im && keeps b l e im)) p
-        (joined (keeps b l c im) (keeps b l d im && keeps b l e im) q (joined (keeps b l d im) (keeps b l e im) r s))
+  -- the tests of a list, after one
+  abbrev tests : Bool → List ℕ → Bool
+  tests t [] = t
+  tests t (a ∷ es) = tests (t && keeps b l a im) es
 
-    pub apart : T (keeps_four b l a c d e im) → T (keeps b l a im) × T (keeps b l c im) × T (keeps b l d im) × T (keeps b l e im)
-    apart t =
-        let (p, t1) = both (keeps b l a im) (keeps b l c im && (keeps b l d im && keeps b l e im)) t in
-        let (q, t2) = both (keeps b l c im) (keeps b l d im && keeps b l e im) t1 in
-        let (r, s) = both (keeps b l d im) (keeps b l e im) t2 in
-        (p, q, r, s)
+  of_tests : (es : List ℕ) (t : Bool) → T (tests t es) → T t × Each b l im es
+  of_tests [] t h = (h, tt)
+  of_tests (a ∷ es) t h =
+      let (first, more) = of_tests es (t && keeps b l a im) h in
+      let (before, here) = both t (keeps b l a im) first in
+      (before, (here, more))
 
-    pub unheld : {r : Bool} → Image im → r ≡ keeps_four b l a c d e im → r ≡ false → false ≡ holds (places_of b) l im
-    unheld I is failed =
-        same_test false (holds (places_of b) l im) (λ x. absurd x)
-        (λ t. let k = holds_any I t in subst T failed (subst T (sym is) (together (k a) (k c) (k d) (k e))))
+  to_tests : ((a : ℕ) → T (keeps b l a im)) → (es : List ℕ) (t : Bool) → T t → T (tests t es)
+  to_tests k [] t h = h
+  to_tests k (a ∷ es) t h = to_tests k es (t && keeps b l a im) (joined t (keeps b l a im) h (k a))
+
+  pub all_tested : Image im → tests (keeps b l 0x06 im) others ≡ holds (places_of b) l im
+  all_tested I =
+      let t = keeps b l 0x06 im in
+      same_test (tests t others) (holds (places_of b) l im)
+      (λ h. holds_all (of_tests others t h))
+      (λ h. let k = holds_any I h in to_tests k others t (k 0x06))
 
 -- ---- the guess
 
