@@ -1,4 +1,5 @@
 -- Every text that the definition accepts is read, and leaves the image that it sets.
+use Rattle.std.specs.Prelude.{Ok}
 use mathlib.Core.Path.{◌≡◌, refl, sym, ap, ◌∙◌}
 use mathlib.Core.Logic.{⊎_elim}
 use mathlib.Core.Bool.{Bool, true, false, cond}
@@ -8,12 +9,10 @@ use native.Mathlib.Omega.{arith}
 use borrow.Author.Tests.{eq-eqb, lt-ltb, ltb-true}
 use lib.Dec.{eqb, ltb}
 use lib.ListN.{length, get_or}
-use Rattle.params.specs.declared.answers.ReadHexAnswer.TheVariants.{Read}
 use Rattle.text.specs.Fields.{parts}
 use Rattle.text.proofs.reading.Parts.{some}
 use Rattle.text.proofs.reading.Tests.{decided}
-use Rattle.intel_hex.specs.declared.records.Judged.{Judged}
-use Rattle.intel_hex.specs.declared.records.Judged.TheVariants.{Fine}
+use Rattle.intel_hex.specs.Faults.{Judged}
 use Rattle.intel_hex.specs.Record.{Record, lf, data_kind, address, sum_of, right_sum, record_in}
 use Rattle.intel_hex.specs.Places.{has, set_by, value_in, image_of}
 use Rattle.intel_hex.specs.Faults.{Outcome, Records, otherwise, form_fault, is_end, place_fault, record_fault, line_fault, incomplete, or_bad, nothing, outcome_from, outcome}
@@ -25,22 +24,22 @@ use Rattle.intel_hex.proofs.Addresses.{has_within, fits_value, never, once_set, 
 -- ---- a record that is right
 
 data_fine : (earlier : List Record) (last : Bool) (r : Record) → r.kind ≡ data_kind → r.sum ≡ right_sum r
-    → place_fault earlier (address r) r.bytes ≡ Fine → record_fault earlier last r ≡ Fine
+    → place_fault earlier (address r) r.bytes ≡ Ok tt → record_fault earlier last r ≡ Ok tt
 data_fine earlier last r k s p = rw (eq-eqb r.sum (right_sum r) s, k, p)
 
-end_fine : (earlier : List Record) → record_fault earlier true end_record ≡ Fine
+end_fine : (earlier : List Record) → record_fault earlier true end_record ≡ Ok tt
 unfolding sum_of
 end_fine earlier = refl
 
 -- ---- one line of it
 
-module _ (n : ℕ) (earlier : List Record) (body m : List ℕ) (ls : List (List ℕ)) (r : Record) (says : record_in body ≡ r) (form : form_fault body ≡ Fine) where
-  line_fine : record_fault earlier (nothing (m ∷ ls)) r ≡ Fine → line_fault earlier (nothing (m ∷ ls)) body ≡ Fine
+module _ (n : ℕ) (earlier : List Record) (body m : List ℕ) (ls : List (List ℕ)) (r : Record) (says : record_in body ≡ r) (form : form_fault body ≡ Ok tt) where
+  line_fine : record_fault earlier (nothing (m ∷ ls)) r ≡ Ok tt → line_fault earlier (nothing (m ∷ ls)) body ≡ Ok tt
   line_fine f =
       let last = nothing (m ∷ ls) in
       ap (λ (j : Judged). otherwise j (record_fault earlier last (record_in body))) form ∙ ap (record_fault earlier last) says ∙ f
 
-  one_line : record_fault earlier (nothing (m ∷ ls)) r ≡ Fine
+  one_line : record_fault earlier (nothing (m ∷ ls)) r ≡ Ok tt
       → outcome_from n earlier (body ∷ m ∷ ls) ≡ cond (is_end r) (or_bad n (incomplete earlier) (Records earlier)) (outcome_from (suc n) (r ∷ earlier) (m ∷ ls))
   one_line f =
       let after : Record → Outcome = λ q. cond (is_end q) (or_bad n (incomplete earlier) (Records earlier)) (outcome_from (suc n) (q ∷ earlier) (m ∷ ls)) in
@@ -80,7 +79,7 @@ module _ (image : List ℕ) where
               (decided (has r a));
         }
 
-    fine : (last : Bool) → Fits image r → record_fault earlier last r ≡ Fine
+    fine : (last : Bool) → Fits image r → record_fault earlier last r ≡ Ok tt
     fine last f =
         data_fine earlier last r f.kind f.sum
         (placed earlier (address r) r.bytes (λ b l m. free b (has_within r b l m)))
@@ -123,7 +122,7 @@ accepts text image s =
     walked image s.size s.lines 1 [] s.fit
     (record { once = λ a. let o = s.once a in omega arith; value = λ a e. let z : false ≡ true = e in cc })
 
-pub accepted : (text image lent : List ℕ) → Sets text image → length lent ≡ 128 → (read_answer text (length lent) ≡ Read) × (read_leaves text lent ≡ image)
+pub accepted : (text image lent : List ℕ) → Sets text image → length lent ≡ 128 → (read_answer text (length lent) ≡ Ok tt) × (read_leaves text lent ≡ image)
 unfolding read_answer read_leaves
 accepted text image lent s l =
     let a = accepts text image s in

@@ -1,4 +1,5 @@
 -- Which addresses records set, how often, and to what: what the walk and the definition of a right text say of it.
+use Rattle.std.specs.Prelude.{Ok}
 use mathlib.Core.Path.{◌≡◌, refl, ap, ap₂, subst, ◌∙◌}
 use mathlib.Core.Logic.{⊎_elim}
 use mathlib.Core.Bool.{true, false}
@@ -10,7 +11,6 @@ use lib.Dec.{leb, ltb}
 use lib.ListN.{length, get_or, drop}
 use lib.Seq.{get_or-take, get_or-drop}
 use Rattle.text.proofs.reading.Tests.{decided, and_true}
-use Rattle.intel_hex.specs.declared.records.Judged.TheVariants.{Fine}
 use Rattle.intel_hex.specs.Record.{Record, address}
 use Rattle.intel_hex.specs.Places.{has, set_by, value_in, each, image_of}
 use Rattle.intel_hex.specs.Faults.{place_fault, unset_fault, incomplete}
@@ -66,17 +66,17 @@ once_set rs a e =
 -- ---- no fault
 
 pub placed : (earlier : List Record) (a : ℕ) (bs : List ℕ) → ((b : ℕ) → a ≤ b → b < a + length bs → (b < 128) × (set_by earlier b ≡ false))
-    → place_fault earlier a bs ≡ Fine
+    → place_fault earlier a bs ≡ Ok tt
 placed earlier a [] h = refl
 placed earlier a (b ∷ bs) h =
     let k = h a (omega arith) (omega arith) in
     rw (lt-ltb a 128 k.0, k.1) (placed earlier (suc a) bs (λ c l m. h c (omega arith) (omega arith)))
 
-all_set : (rs : List Record) (a n : ℕ) → ((b : ℕ) → a ≤ b → b < a + n → set_by rs b ≡ true) → unset_fault rs a n ≡ Fine
+all_set : (rs : List Record) (a n : ℕ) → ((b : ℕ) → a ≤ b → b < a + n → set_by rs b ≡ true) → unset_fault rs a n ≡ Ok tt
 all_set rs a zero h = refl
 all_set rs a (suc n) h = rw (h a (omega arith) (omega arith)) (all_set rs (suc a) n (λ b l m. h b (omega arith) (omega arith)))
 
-pub complete : (rs : List Record) → ((b : ℕ) → b < 128 → set_by rs b ≡ true) → incomplete rs ≡ Fine
+pub complete : (rs : List Record) → ((b : ℕ) → b < 128 → set_by rs b ≡ true) → incomplete rs ≡ Ok tt
 unfolding incomplete
 complete rs h = all_set rs 0 128 (λ b l m. h b (omega arith))
 

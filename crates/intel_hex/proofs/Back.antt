@@ -1,4 +1,5 @@
 -- Our layout is a right text that sets the image which was written, so reading it gives that image back.
+use Rattle.std.specs.Prelude.{Ok}
 use mathlib.Core.Path.{◌≡◌, refl, sym, ap, ap₂, subst}
 use mathlib.Core.Logic.{inl, ⊎_elim}
 use mathlib.Core.Bool.{true, false, cond}
@@ -9,7 +10,6 @@ use borrow.Author.Tests.{ltb-true, ltb-false}
 use lib.Dec.{ltb}
 use lib.ListN.{length, get_or, take, drop, length-append, length-drop}
 use lib.Seq.{length-take-le}
-use Rattle.params.specs.declared.answers.ReadHexAnswer.TheVariants.{Read}
 use Rattle.text.specs.declared.hex.Case.TheVariants.{Upper}
 use Rattle.text.specs.Numbers.{hex}
 use Rattle.text.proofs.reading.Tests.{decided}
@@ -155,5 +155,5 @@ layout_sets image l s =
     }
 
 pub read_back : (image lent : List ℕ) → length image ≡ 128 → ((i : ℕ) → get_or image i 0 < 256) → length lent ≡ 128
-    → (read_answer (layout image) (length lent) ≡ Read) × (read_leaves (layout image) lent ≡ image)
+    → (read_answer (layout image) (length lent) ≡ Ok tt) × (read_leaves (layout image) lent ≡ image)
 read_back image lent l s m = accepted (layout image) image lent (layout_sets image l s) m

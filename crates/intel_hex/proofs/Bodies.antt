@@ -1,4 +1,5 @@
 -- What stands before the LF of a record's line: it is the text's first part, its form is right, and it says the record.
+use Rattle.std.specs.Prelude.{Ok}
 use mathlib.Core.Path.{◌≡◌, refl, ◌∙◌}
 use mathlib.Core.Logic.{⊎_elim}
 use mathlib.Core.Bool.{true, false}
@@ -14,7 +15,6 @@ use Rattle.text.specs.Words.{all}
 use Rattle.text.specs.Hex.{any_digit}
 use Rattle.text.specs.Fields.{parts}
 use Rattle.text.proofs.reading.Tests.{and_true}
-use Rattle.intel_hex.specs.declared.records.Judged.TheVariants.{Fine}
 use Rattle.intel_hex.specs.Record.{Record, lf, cr, colon, fields, hex_pairs, said, without_cr, is_digit_line, bytes_of, is_counted, record_of, record_in}
 use Rattle.intel_hex.specs.Faults.{form_fault}
 use Rattle.intel_hex.specs.Texts.{Line}
@@ -108,5 +108,5 @@ module _ {r : Record} {line : List ℕ} (b : Body r line) where
   pub says_record : record_in b.body ≡ r
   says_record = rw b.bytes (same_record r)
 
-  pub right_form : form_fault b.body ≡ Fine
+  pub right_form : form_fault b.body ≡ Ok tt
   right_form = rw (b.form, b.bytes, counted r)

@@ -1,5 +1,5 @@
 -- The bytes of a record whose count is right: how many they are, and what the sum is over.
-use mathlib.Core.Path.{◌≡◌, ◌∙◌}
+use mathlib.Core.Path.{◌≡◌, sym, ap, ◌∙◌}
 use mathlib.Core.Bool.{true}
 use mathlib.Core.List.{List, [], ◌∷◌}
 use Prim.Native.Nat.{ℕ, suc, ◌+◌, ◌*◌, ◌≤◌, ◌<◌}
@@ -7,8 +7,9 @@ use native.Mathlib.Omega.{arith}
 use borrow.Author.Tests.{eqb-true}
 use lib.ListN.{length, take, drop, get_or, length-drop}
 use lib.Seq.{length-take-le, get_or-take, get_or-drop}
-use Rattle.intel_hex.specs.Record.{is_counted, record_of, summed, said}
+use Rattle.intel_hex.specs.Record.{Record, is_counted, record_of, summed, said}
 use Rattle.intel_hex.proofs.Said.{length_said}
+use Rattle.intel_hex.proofs.Bytes.{small_at, small_said}
 
 -- four bytes, and so many more
 front : (bs : List ℕ) (n : ℕ) → 4 ≤ length bs → take (n + 4) bs ≡ get_or bs 0 0 ∷ get_or bs 1 0 ∷ get_or bs 2 0 ∷ get_or bs 3 0 ∷ take n (drop 4 bs)
@@ -35,6 +36,14 @@ pub byte_of : (bs : List ℕ) (i : ℕ) → i < get_or bs 0 0 → get_or (record
 byte_of bs i h =
     let e : 4 + i ≡ i + 4 = omega arith in
     get_or-take (get_or bs 0 0) (drop 4 bs) i 0 h ∙ get_or-drop 4 bs i 0 ∙ rw e
+
+-- a record has at most 255 bytes
+pub few : (ds : List ℕ) → is_counted (said ds) ≡ true → length (record_of (said ds)).bytes < 256
+few ds h = let m = many (said ds) h in let s = small_at (said ds) (small_said ds) 0 in omega arith
+
+-- what its count is, told by the record
+pub counted_by : (ds : List ℕ) (r : Record) (n : ℕ) → is_counted (said ds) ≡ true → record_of (said ds) ≡ r → n ≡ length r.bytes → n ≡ get_or (said ds) 0 0
+counted_by ds r n h e l = l ∙ ap (λ (q : Record). length q.bytes) (sym e) ∙ many (said ds) h
 
 -- the digits are long enough for each byte
 pub inside : (ds : List ℕ) (k : ℕ) → is_counted (said ds) ≡ true → k < get_or (said ds) 0 0 + 5 → 2 * k + 1 < length ds

@@ -1,4 +1,5 @@
 -- A text cut at its first LF, and the record that the line before it says.
+use Rattle.std.specs.Prelude.{Ok}
 use mathlib.Core.Path.{◌≡◌, refl, sym, ap, ap₂, ◌∙◌}
 use mathlib.Core.Logic.{◌⊎◌, inl, inr, ⊎_elim}
 use mathlib.Core.Bool.{true, false}
@@ -13,7 +14,6 @@ use Rattle.params.specs.declared.hex_faults.HexFault.TheVariants.{Form, Count}
 use Rattle.text.specs.Fields.{longer, parts}
 use Rattle.text.proofs.reading.Tests.{decided, and_true}
 use Rattle.text.proofs.reading.Parts.{some}
-use Rattle.intel_hex.specs.declared.records.Judged.TheVariants.{Fine}
 use Rattle.intel_hex.specs.Record.{lf, cr, colon, fields, hex_pairs, without_cr, is_digit_line, bytes_of, is_counted, record_of, record_in}
 use Rattle.intel_hex.specs.Faults.{unless, form_fault, nothing}
 use Rattle.intel_hex.specs.Texts.{Line}
@@ -121,12 +121,12 @@ starts [] b e h = absurd (omega arith)
 starts (x ∷ s) b e h = ap (λ (y : ℕ). y ∷ s) e
 
 -- a line whose form is right is the line of the record that it says
-pub line_of : (line : List ℕ) → form_fault line ≡ Fine → Line (record_in line) (line ++ (lf ∷ []))
+pub line_of : (line : List ℕ) → form_fault line ≡ Ok tt → Line (record_in line) (line ++ (lf ∷ []))
 unfolding is_digit_line
 line_of line f =
     let kept = without_cr line in
-    let p = unless_fine (is_digit_line line) Form (unless (is_counted (bytes_of line)) Count Fine) f in
-    let c = unless_fine (is_counted (bytes_of line)) Count Fine p.1 in
+    let p = unless_fine (is_digit_line line) Form (unless (is_counted (bytes_of line)) Count (Ok tt)) f in
+    let c = unless_fine (is_counted (bytes_of line)) Count (Ok tt) p.1 in
     let d = and_true (eqb (get_or kept 0 0) colon) (hex_pairs (drop 1 kept)) p.0 in
     let e = ended line in
     record {

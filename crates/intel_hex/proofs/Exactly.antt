@@ -1,4 +1,5 @@
 -- A text that is read is a right text, and sets the image that it leaves: with `accepted`, just the right texts are read.
+use Rattle.std.specs.Prelude.{Ok}
 use mathlib.Core.Path.{◌≡◌, refl, sym, ap, subst, ◌∙◌}
 use mathlib.Core.Logic.{⊎_elim}
 use mathlib.Core.Bool.{Bool, true, false, cond, true≢false}
@@ -9,7 +10,6 @@ use borrow.Author.Tests.{eq-eqb, lt-ltb, ltb-true}
 use lib.Dec.{ltb}
 use lib.ListN.{length, get_or, take, drop, length-drop}
 use lib.Seq.{length-take-le, get_or-take, get_or-drop, ext_get_or}
-use Rattle.params.specs.declared.answers.ReadHexAnswer.TheVariants.{Read}
 use Rattle.text.specs.Fields.{parts}
 use Rattle.text.proofs.reading.Tests.{decided}
 use Rattle.intel_hex.specs.Record.{Record, lf, data_kind, address, right_sum, record_in}
@@ -191,7 +191,7 @@ sets text out w =
       size = image_length out;
     }
 
-read_records : (o : Outcome) → answered o ≡ Read → (rs : List Record) × (o ≡ Records rs)
+read_records : (o : Outcome) → answered o ≡ Ok tt → (rs : List Record) × (o ≡ Records rs)
 read_records (Records rs) e = (rs, refl)
 read_records (Bad f n) e = absurd (let z : ◌≡◌ {A = ℕ} 0 1 = cc in omega arith)
 
@@ -201,7 +201,7 @@ from_records text lent out l o =
     let i : read_leaves text lent ≡ image_of out = rw (eq-eqb (length lent) 128 l, o) in
     rw i (sets text out (found (parts lf text) 1 [] out text refl o (λ a. omega arith)))
 
-pub exactly : (text lent : List ℕ) → length lent ≡ 128 → read_answer text (length lent) ≡ Read → Sets text (read_leaves text lent)
+pub exactly : (text lent : List ℕ) → length lent ≡ 128 → read_answer text (length lent) ≡ Ok tt → Sets text (read_leaves text lent)
 unfolding read_answer
 exactly text lent l e =
     let o = read_records (outcome text) (rw (eq-eqb (length lent) 128 l) at e) in

@@ -1,15 +1,14 @@
 pub mod Said
 pub mod Sums
+pub mod Bytes
 pub mod Counted
 pub mod Over
-pub mod Bytes
 pub mod Bodies
 pub mod Addresses
 pub mod Faultless
 pub mod Form
 pub mod Held
 pub mod Walked
-pub mod Read
 pub mod Rows
 pub mod Cuts
 pub mod Accepted

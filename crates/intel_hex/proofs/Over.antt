@@ -3,6 +3,7 @@ use mathlib.Core.Path.{◌≡◌, refl, ◌∙◌}
 use mathlib.Core.Logic.{⊎_elim}
 use mathlib.Core.Bool.{Bool, true, false, cond, ◌&&◌}
 use mathlib.Core.List.{List}
+use Rattle.std.specs.Prelude.{Option, None}
 use Prim.Native.Nat.{ℕ, ◌+◌, ◌<◌}
 use native.Mathlib.Omega.{arith}
 use borrow.Author.Tests.{lt-ltb, le-ltb, le-leb, ltb-true, ltb-false, leb-true, eqb-true, eqb-false}
@@ -15,9 +16,9 @@ use Rattle.text.proofs.reading.Tests.{decided}
 abbrev pub among : ℕ → ℕ → ℕ → Bool
 among first n a = leb first a && ltb a (first + n)
 
-pub record Over (vs : ℕ → ℕ) (first n : ℕ) (old new : List ℕ) : Type 0 where
+pub record Over (vs : ℕ → Option ℕ) (first n : ℕ) (old new : List (Option ℕ)) : Type 0 where
   pub size : length new ≡ length old
-  pub at : (a : ℕ) → get_or new a 0 ≡ cond (among first n a) (vs a) (get_or old a 0)
+  pub at : (a : ℕ) → get_or new a None ≡ cond (among first n a) (vs a) (get_or old a None)
 
 none_among : (first a : ℕ) → among first 0 a ≡ false
 none_among first a =
@@ -34,25 +35,17 @@ more_among first n a d =
     (λ (t : ltb a (first + n) ≡ false). let l = ltb-false a (first + n) t in rw t (le-ltb a (first + (n + 1)) (omega (arith, d))))
     (decided (ltb a (first + n)))
 
--- the place behind n is not among them
-next_out : (first n : ℕ) → among first n (first + n) ≡ false
-next_out first n = rw (le-leb first (first + n) (omega arith), le-ltb (first + n) (first + n) (omega arith))
-
-module _ (vs : ℕ → ℕ) (first : ℕ) (old : List ℕ) where
-  -- what is not put yet is as it was
-  pub as_it_was : (n : ℕ) (new : List ℕ) → Over vs first n old new → get_or new (first + n) 0 ≡ get_or old (first + n) 0
-  as_it_was n new o = o.at (first + n) ∙ rw (next_out first n)
-
+module _ (vs : ℕ → Option ℕ) (first : ℕ) (old : List (Option ℕ)) where
   pub none : Over vs first 0 old old
   none = record { size = refl; at = λ a. rw (none_among first a) }
 
-  module _ (n : ℕ) (new : List ℕ) (v : ℕ) (o : Over vs first n old new) (h : first + n < length new) (e : v ≡ vs (first + n)) where
-    here : (a : ℕ) → a ≡ first + n → get_or (set new (first + n) v) a 0 ≡ cond (among first (n + 1) a) (vs a) (get_or old a 0)
+  module _ (n : ℕ) (new : List (Option ℕ)) (v : Option ℕ) (o : Over vs first n old new) (h : first + n < length new) (e : v ≡ vs (first + n)) where
+    here : (a : ℕ) → a ≡ first + n → get_or (set new (first + n) v) a None ≡ cond (among first (n + 1) a) (vs a) (get_or old a None)
     here a i =
-        rw (i, get_or-set_same new (first + n) v 0 h, e, le-leb first (first + n) (omega arith), lt-ltb (first + n) (first + (n + 1)) (omega arith))
+        rw (i, get_or-set_same new (first + n) v None h, e, le-leb first (first + n) (omega arith), lt-ltb (first + n) (first + (n + 1)) (omega arith))
 
-    elsewhere : (a : ℕ) → (a ≡ first + n → ⊥) → get_or (set new (first + n) v) a 0 ≡ cond (among first (n + 1) a) (vs a) (get_or old a 0)
-    elsewhere a d = rw (get_or-set_other new (first + n) a v 0 d, more_among first n a d) (o.at a)
+    elsewhere : (a : ℕ) → (a ≡ first + n → ⊥) → get_or (set new (first + n) v) a None ≡ cond (among first (n + 1) a) (vs a) (get_or old a None)
+    elsewhere a d = rw (get_or-set_other new (first + n) a v None d, more_among first n a d) (o.at a)
 
     pub more : Over vs first (n + 1) old (set new (first + n) v)
     more =

@@ -1,4 +1,5 @@
 -- Writing an image that was read gives our layout of it, and reading that gives the same image.
+use Rattle.std.specs.Prelude.{Ok}
 use mathlib.Core.Path.{◌≡◌, sym, subst}
 use mathlib.Core.Logic.{⊎_elim}
 use mathlib.Core.Bool.{true, false}
@@ -9,8 +10,6 @@ use borrow.Author.Tests.{eq-eqb, le-leb, ltb-false}
 use lib.Dec.{ltb}
 use lib.ListN.{length, get_or, take, drop}
 use lib.Seq.{take_at}
-use Rattle.params.specs.declared.answers.ReadHexAnswer.TheVariants.{Read}
-use Rattle.params.specs.declared.answers.WriteHexAnswer.TheVariants.{Written}
 use Rattle.text.proofs.reading.Tests.{decided, past}
 use Rattle.intel_hex.specs.Record.{Record, address, fields}
 use Rattle.intel_hex.specs.Places.{has}
@@ -52,7 +51,7 @@ sets_small text image s i =
 -- ---- what is written
 
 module _ (image room : List ℕ) (size : length image ≡ 128) (space : layout_size ≤ length room) where
-  writes : write_answer image (length room) ≡ Written layout_size
+  writes : write_answer image (length room) ≡ Ok layout_size
   unfolding write_answer
   writes = rw (eq-eqb (length image) 128 size, le-leb layout_size (length room) space)
 
@@ -60,11 +59,11 @@ module _ (image room : List ℕ) (size : length image ≡ 128) (space : layout_s
   unfolding write_leaves
   written_text = rw writes (take_at (layout image) (drop layout_size room) layout_size (layout_size_lem image size))
 
-pub rewritten : (text lent room : List ℕ) → length lent ≡ 128 → read_answer text (length lent) ≡ Read → 364 ≤ length room
+pub rewritten : (text lent room : List ℕ) → length lent ≡ 128 → read_answer text (length lent) ≡ Ok tt → 364 ≤ length room
     → let image = read_leaves text lent in
-    (write_answer image (length room) ≡ Written 364)
+    (write_answer image (length room) ≡ Ok 364)
     × (take 364 (write_leaves image room) ≡ layout image)
-    × (read_answer (layout image) (length lent) ≡ Read)
+    × (read_answer (layout image) (length lent) ≡ Ok tt)
     × (read_leaves (layout image) lent ≡ image)
 rewritten text lent room l e h =
     let image = read_leaves text lent in

@@ -1,13 +1,10 @@
 -- What is wrong with a text of Intel HEX, in words.
 use Rattle.std.specs.Prelude.{List, [], ◌∷◌, ◌++◌, ℕ, ◌/◌, ◌%◌}
 use Rattle.text.specs.declared.hex.Case.TheVariants.{Upper}
-use Rattle.text.specs.Fields.{field_at}
 use Rattle.text.specs.Numbers.{hex}
 use Rattle.text.specs.Words.{ascii}
 use Rattle.params.specs.declared.hex_faults.HexFault.{HexFault}
 use Rattle.params.specs.declared.hex_faults.HexFault.TheVariants.{Open, Form, Count, Kind, EndHolds, After, Sum, Outside, Twice, NoEnd, Unset}
-use Rattle.intel_hex.specs.declared.fault_words.Figure.{Figure}
-use Rattle.intel_hex.specs.declared.fault_words.Figure.TheVariants.{Nothing, Byte, Address}
 
 -- a byte as a record has it
 abbrev pub byte_text : ℕ → List ℕ
@@ -29,23 +26,3 @@ words_of (Outside a) = ascii "a byte stands at " ++ (address_text a ++ ascii ", 
 words_of (Twice a) = ascii "the byte at " ++ (address_text a ++ ascii " was set by an earlier record")
 words_of NoEnd = ascii "there is no end record"
 words_of (Unset a) = ascii "address " ++ (address_text a ++ ascii " is not set")
-
--- ---- the same by a row of two tables, for the words before a number and behind it
-
-abbrev pub heads : List ℕ
-heads =
-    ascii
-    "the line does not end with LF\ta record is a colon and pairs of hex digits\tthe record's byte count is not that of its bytes\tthe record's type is \tan end record has no bytes, and address 0000\ttext follows the end record\tthe sum is wrong; \ta byte stands at \tthe byte at \tthere is no end record\taddress "
-
-abbrev pub tails : List ℕ
-tails =
-    ascii
-    "\t\t\t, and only 00 (data) and 01 (end) are taken\t\t\t would be right\t, and an image ends at 0x007F\t was set by an earlier record\t\t is not set"
-
-abbrev pub figure_text : Figure → List ℕ
-figure_text Nothing = []
-figure_text (Byte b) = byte_text b
-figure_text (Address a) = address_text a
-
-abbrev pub phrase : ℕ → Figure → List ℕ
-phrase row figure = field_at 9 row heads ++ (figure_text figure ++ field_at 9 row tails)

@@ -1,81 +1,77 @@
--- What a walk holds of the records so far: a byte for each place, and a mark where one is set.
-use Rattle.std.specs.Prelude.{◌≡◌, Bool, true, false, cond, List, ℕ, zero, suc, ◌-◌, ◌<◌, eqb, ltb, length, get_or}
+-- What a walk holds of the records so far: at each place that one of them sets the byte there.
+use Rattle.std.specs.Prelude.{◌≡◌, Bool, true, false, cond, List, [], ◌∷◌, ℕ, zero, suc, ◌-◌, ◌<◌, ltb, length, get_or, Option, Some, None, is_none, is_some, ⊤, Result, Ok, Err}
+use Rattle.params.specs.declared.hex_faults.HexFault.{HexFault}
 use Rattle.params.specs.declared.hex_faults.HexFault.TheVariants.{Outside, Twice, Unset}
-use Rattle.params.specs.declared.answers.ReadHexAnswer.{ReadHexAnswer}
-use Rattle.params.specs.declared.answers.ReadHexAnswer.TheVariants as reading
-use Rattle.intel_hex.specs.declared.records.Judged.{Judged}
-use Rattle.intel_hex.specs.declared.records.Judged.TheVariants.{Fine, Wrong}
-use Rattle.intel_hex.specs.declared.walk.Taken.{Taken}
-use Rattle.intel_hex.specs.declared.walk.Taken.TheVariants.{Data, End, Bad}
+use Rattle.params.specs.declared.answers.HexError.{HexError}
+use Rattle.params.specs.declared.answers.HexError.TheVariants as reading
 use Rattle.intel_hex.specs.Record.{Record, address, record_in}
 use Rattle.intel_hex.specs.Places.{has, set_by, value_in, image_of}
-use Rattle.intel_hex.specs.Faults.{Outcome, unless, otherwise, form_fault, kind_fault, sum_fault, is_end}
+use Rattle.intel_hex.specs.Faults.{Judged, Outcome, unless, otherwise, form_fault, kind_fault, sum_fault, is_end}
 use Rattle.intel_hex.specs.Faults as faults
 
-abbrev pub mark_in : List Record → ℕ → ℕ
-mark_in rs a = cond (set_by rs a) 1 0
+abbrev pub byte_in : List Record → ℕ → Option ℕ
+byte_in rs a = cond (set_by rs a) (Some (value_in rs a)) None
 
-pub record Holds (rs : List Record) (bytes set : List ℕ) : Type 0 where
-  pub many : length bytes ≡ 128
-  pub marks : length set ≡ 128
-  pub byte : (a : ℕ) → a < 128 → get_or bytes a 0 ≡ value_in rs a
-  pub mark : (a : ℕ) → a < 128 → get_or set a 0 ≡ mark_in rs a
+pub record Holds (rs : List Record) (places : List (Option ℕ)) : Type 0 where
+  pub many : length places ≡ 128
+  pub byte : (a : ℕ) → a < 128 → get_or places a None ≡ byte_in rs a
 
--- ---- faults, as the marks tell them
+-- ---- faults, as the places tell them
 
-abbrev pub taken_fault : List ℕ → ℕ → ℕ → Judged
-taken_fault set a zero = Fine
-taken_fault set a (suc n) =
-    unless (ltb a 128) (Outside a) (unless (eqb (get_or set a 0) 0) (Twice a) (taken_fault set (suc a) n))
+abbrev pub taken_fault : List (Option ℕ) → ℕ → ℕ → Judged
+taken_fault places a zero = Ok tt
+taken_fault places a (suc n) =
+    unless (ltb a 128) (Outside a) (unless (is_none (get_or places a None)) (Twice a) (taken_fault places (suc a) n))
 
-abbrev pub free_fault : List ℕ → ℕ → ℕ → Judged
-free_fault set a zero = Fine
-free_fault set a (suc n) = cond (eqb (get_or set a 0) 0) (Wrong (Unset a)) (free_fault set (suc a) n)
+abbrev pub free_fault : List (Option ℕ) → ℕ → ℕ → Judged
+free_fault places a zero = Ok tt
+free_fault places a (suc n) = unless (is_some (get_or places a None)) (Unset a) (free_fault places (suc a) n)
 
-unfoldable pub free_in : List ℕ → Judged
-free_in set = free_fault set 0 128
+unfoldable pub free_in : List (Option ℕ) → Judged
+free_in places = free_fault places 0 128
 
-abbrev pub held_fault : List ℕ → Bool → Record → Judged
-held_fault set last r =
-    otherwise (otherwise (kind_fault last r) (sum_fault r)) (cond (is_end r) Fine (taken_fault set (address r) (length r.bytes)))
+abbrev pub held_fault : List (Option ℕ) → Bool → Record → Judged
+held_fault places last r =
+    otherwise (otherwise (kind_fault last r) (sum_fault r)) (cond (is_end r) (Ok tt) (taken_fault places (address r) (length r.bytes)))
 
-abbrev pub held_line_fault : List ℕ → Bool → List ℕ → Judged
-held_line_fault set last line = otherwise (form_fault line) (held_fault set last (record_in line))
+abbrev pub held_line_fault : List (Option ℕ) → Bool → List ℕ → Judged
+held_line_fault places last line = otherwise (form_fault line) (held_fault places last (record_in line))
 
 -- ---- one line taken
 
-abbrev pub taken_as : Judged → Bool → Taken
-taken_as Fine true = End
-taken_as Fine false = Data
-taken_as (Wrong f) end = Bad f
+-- what is answered where nothing is wrong
+abbrev pub giving : {A : Type 0} → Judged → A → Result A HexFault
+giving (Ok tt) answer = Ok answer
+giving (Err f) answer = Err f
 
 -- a record put at its places, among what is held
-pub record Puts (r : Record) (bytes set bytes' set' : List ℕ) : Type 0 where
-  pub many : length bytes' ≡ length bytes
-  pub marks : length set' ≡ length set
-  pub byte : (a : ℕ) → get_or bytes' a 0 ≡ cond (has r a) (get_or r.bytes (a - address r) 0) (get_or bytes a 0)
-  pub mark : (a : ℕ) → get_or set' a 0 ≡ cond (has r a) 1 (get_or set a 0)
+pub record Puts (r : Record) (places places' : List (Option ℕ)) : Type 0 where
+  pub many : length places' ≡ length places
+  pub byte : (a : ℕ) → get_or places' a None ≡ cond (has r a) (Some (get_or r.bytes (a - address r) 0)) (get_or places a None)
 
-abbrev pub Leaves : Taken → Record → List ℕ → List ℕ → List ℕ → List ℕ → Type 0
-Leaves Data r bytes set bytes' set' = Puts r bytes set bytes' set'
-Leaves End r bytes set bytes' set' = (bytes' ≡ bytes) × (set' ≡ set)
-Leaves (Bad f) r bytes set bytes' set' = Unit
+-- what a line leaves that was told to be the end record or none, or was refused
+abbrev pub Leaves : Result Bool HexFault → Record → List (Option ℕ) → List (Option ℕ) → Type 0
+Leaves (Ok false) r places places' = Puts r places places'
+Leaves (Ok true) r places places' = places' ≡ places
+Leaves (Err f) r places places' = Unit
 
-pub record Took (line : List ℕ) (last : Bool) (bytes set : List ℕ) (t : Taken) (bytes' set' : List ℕ) : Type 0 where
-  pub is : t ≡ taken_as (held_line_fault set last line) (is_end (record_in line))
-  pub leaves : Leaves t (record_in line) bytes set bytes' set'
+pub record Took (line : List ℕ) (last : Bool) (places : List (Option ℕ)) (told : Result Bool HexFault) (places' : List (Option ℕ)) : Type 0 where
+  pub is : told ≡ giving (held_line_fault places last line) (is_end (record_in line))
+  pub leaves : Leaves told (record_in line) places places'
 
 -- ---- the whole walk
 
-abbrev pub ended_as : Judged → ℕ → ReadHexAnswer
-ended_as Fine n = reading.Read
-ended_as (Wrong f) n = reading.Bad f n
+-- what is answered at the end record, in this line
+abbrev pub ended_as : Judged → ℕ → Result ⊤ HexError
+ended_as (Ok tt) n = Ok tt
+ended_as (Err f) n = Err (reading.Bad f n)
 
-abbrev pub is_read : ReadHexAnswer → Bool
-is_read reading.Read = true
-is_read (reading.Bad f n) = false
-is_read (reading.Refused e) = false
+-- the bytes that are held, 0 where none is
+abbrev pub shown : List (Option ℕ) → List ℕ
+shown [] = []
+shown (None ∷ places) = 0 ∷ shown places
+shown (Some b ∷ places) = b ∷ shown places
 
-abbrev pub Shown : Outcome → List ℕ → Type 0
-Shown (faults.Records rs) bytes = bytes ≡ image_of rs
-Shown (faults.Bad f n) bytes = Unit
+abbrev pub Shown : Outcome → List (Option ℕ) → Type 0
+Shown (faults.Records rs) places = shown places ≡ image_of rs
+Shown (faults.Bad f n) places = Unit

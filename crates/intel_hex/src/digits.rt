@@ -5,17 +5,12 @@ ghost use Rattle.intel_hex.specs.Record.{hex_pairs, said, without_cr, is_digit_l
 use text::hex::{is_any_digit, worth};
 
 // What a line holds before the CR that may end it.
-pub(crate) fn without_cr(line: &[u8]) -> &[u8]
+fn without_cr(line: &[u8]) -> &[u8]
     ensures { result.now ≡ without_cr line.now }
 {
-    let n = line.len();
-    if n == 0 {
-        return line;
-    }
-    if line[n - 1] == b'\r' {
-        &line[..n - 1]
-    } else {
-        line
+    match line {
+        [held @ .., b'\r'] => held,
+        _ => line,
     }
 }
 
@@ -23,43 +18,27 @@ pub(crate) fn without_cr(line: &[u8]) -> &[u8]
 pub(crate) fn digits_of(line: &[u8]) -> &[u8]
     ensures { result.now ≡ drop 1 (without_cr line.now) }
 {
-    let held = without_cr(line);
-    if held.len() == 0 {
-        return held;
+    match without_cr(line) {
+        [_, digits @ ..] => digits,
+        empty => empty,
     }
-    &held[1..]
 }
 
-#[tactic(auto, using(text::proofs::reading::Tests::fails), unfolding(crate::specs::Record::hex_pairs))]
 fn hex_pairs(digits: &[u8]) -> bool
     ensures { result ≡ hex_pairs digits.now }
 {
-    if digits.len() % 2 != 0 {
-        return false;
-    }
-    let mut i = 0;
-    while i < digits.len() {
-        if is_any_digit(digits[i]) {
-            i += 1;
-        } else {
-            return false;
-        }
-    }
-    true
+    digits.len() % 2 == 0 && digits.iter().all(|&b| is_any_digit(b))
 }
 
 // A colon and whole bytes.
+#[tactic(auto, unfolding(crate::specs::Record::is_digit_line))]
 pub(crate) fn is_digit_line(line: &[u8]) -> bool
     ensures { result ≡ is_digit_line line.now }
 {
-    let held = without_cr(line);
-    if held.len() == 0 {
-        return false;
+    match without_cr(line) {
+        [b':', digits @ ..] => hex_pairs(digits),
+        _ => false,
     }
-    if held[0] != b':' {
-        return false;
-    }
-    hex_pairs(digits_of(line))
 }
 
 pub(crate) fn byte_at(digits: &[u8], k: usize) -> u8

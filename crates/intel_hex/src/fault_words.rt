@@ -1,87 +1,69 @@
 // What is wrong with a text of Intel HEX, in words.
-ghost use Rattle.std.specs.Prelude.{◌≡◌, ◌+◌, ◌≤◌, length};
-ghost use Rattle.text.specs.Text.{Appended};
-ghost use Rattle.intel_hex.specs.FaultWords.{address_text, figure_text, phrase, words_of};
+#![tactic(auto, using(text::proofs::printing::Appending::texts))]
+
+ghost use Rattle.std.specs.Prelude.{◌≡◌, ◌++◌, ◌+◌, ◌≤◌, length};
+ghost use Rattle.text.specs.Text.{Put, Space};
+ghost use Rattle.intel_hex.specs.FaultWords.{byte_text, address_text, words_of};
 
 use params::hex_faults::HexFault;
 use text::hex::Case;
-use text::printing::{put, put_hex};
-use text::reading::field;
+use text::printing::Text;
 
-// The number that stands between the words.
-#[derive(Clone, Copy)]
-pub(crate) enum Figure {
-    Nothing,
-    Byte(u8),
-    Address(usize),
+// A byte, between words.
+fn put_byte(before: &[u8], b: u8, behind: &[u8], out: &mut Text<'_>)
+    requires { Space (length before.now + (length behind.now + 2)) out.old }
+    ensures { Put (before.now ++ (byte_text b ++ behind.now)) out.old out.new }
+{
+    out.put(before);
+    out.put_hex(&[b], Case::Upper);
+    out.put(behind);
 }
 
-// The row of the tables that has the words, and the number between them.
-#[derive(Clone, Copy)]
-struct Phrase(usize, Figure);
+// An address, between words. Four digits are enough: of a record's bytes the first that is wrong is told, at the
+// record's own address or at most 0x0080.
+#[tactic(auto, using(text::proofs::printing::Appending::texts), unfolding(crate::specs::FaultWords::address_text))]
+fn put_address(before: &[u8], a: usize, behind: &[u8], out: &mut Text<'_>)
+    requires { Space (length before.now + (length behind.now + 6)) out.old }
+    ensures appended { Put (before.now ++ (address_text a ++ behind.now)) out.old out.new }
+    ensures value { out.new.end ≡ out.old.end + (length before.now + (length behind.now + 6)) }
+{
+    out.put(before);
+    out.put(b"0x");
+    out.put_hex(&[(a / 256 % 256) as u8, (a % 256) as u8], Case::Upper);
+    out.put(behind);
+}
 
-#[tactic(auto, unfolding(text::specs::Bytes::index_of))]
-fn phrase_of(f: HexFault) -> Phrase
-    ensures { words_of f ≡ phrase result.0 result.1 }
+pub fn put_words(f: HexFault, out: &mut Text<'_>)
+    requires { Space 450 out.old }
+    ensures appended { Put (words_of f) out.old out.new }
+    ensures upper_bound { out.new.end ≤ out.old.end + 450 }
 {
     match f {
-        HexFault::Open => Phrase(0, Figure::Nothing),
-        HexFault::Form => Phrase(1, Figure::Nothing),
-        HexFault::Count => Phrase(2, Figure::Nothing),
-        HexFault::Kind(k) => Phrase(3, Figure::Byte(k)),
-        HexFault::EndHolds => Phrase(4, Figure::Nothing),
-        HexFault::After => Phrase(5, Figure::Nothing),
-        HexFault::Sum(right) => Phrase(6, Figure::Byte(right)),
-        HexFault::Outside(a) => Phrase(7, Figure::Address(a)),
-        HexFault::Twice(a) => Phrase(8, Figure::Address(a)),
-        HexFault::NoEnd => Phrase(9, Figure::Nothing),
-        HexFault::Unset(a) => Phrase(10, Figure::Address(a)),
+        HexFault::Open => out.put(b"the line does not end with LF"),
+        HexFault::Form => out.put(b"a record is a colon and pairs of hex digits"),
+        HexFault::Count => out.put(b"the record's byte count is not that of its bytes"),
+        HexFault::Kind(k) => put_byte(
+            b"the record's type is ",
+            k,
+            b", and only 00 (data) and 01 (end) are taken",
+            out,
+        ),
+        HexFault::EndHolds => out.put(b"an end record has no bytes, and address 0000"),
+        HexFault::After => out.put(b"text follows the end record"),
+        HexFault::Sum(right) => put_byte(b"the sum is wrong; ", right, b" would be right", out),
+        HexFault::Outside(a) => put_address(
+            b"a byte stands at ",
+            a,
+            b", and an image ends at 0x007F",
+            out,
+        ),
+        HexFault::Twice(a) => put_address(
+            b"the byte at ",
+            a,
+            b" was set by an earlier record",
+            out,
+        ),
+        HexFault::NoEnd => out.put(b"there is no end record"),
+        HexFault::Unset(a) => put_address(b"address ", a, b" is not set", out),
     }
-}
-
-// Four digits are enough: of a record's bytes the first that is wrong is told, at the record's own address or at most 0x0080.
-fn put_address(a: usize, out: &mut [u8], at: usize) -> usize
-    requires { at + 6 ≤ length out.old }
-    ensures appended { Appended (address_text a) at out.old result out.new }
-    ensures upper_bound { result ≤ at + 6 }
-{
-    let at = put(b"0x", out, at);
-    let low = [(a / 256 % 256) as u8, (a % 256) as u8];
-    put_hex(&low, Case::Upper, out, at)
-}
-
-fn put_figure(figure: Figure, out: &mut [u8], at: usize) -> usize
-    requires { at + 6 ≤ length out.old }
-    ensures appended { Appended (figure_text figure) at out.old result out.new }
-    ensures upper_bound { result ≤ at + 6 }
-{
-    match figure {
-        Figure::Nothing => at,
-        Figure::Byte(b) => put_hex(&[b], Case::Upper, out, at),
-        Figure::Address(a) => put_address(a, out, at),
-    }
-}
-
-fn put_phrase(row: usize, figure: Figure, out: &mut [u8], at: usize) -> usize
-    requires { at + 450 ≤ length out.old }
-    ensures appended { Appended (phrase row figure) at out.old result out.new }
-    ensures upper_bound { result ≤ at + 450 }
-{
-    let heads =
-        b"the line does not end with LF\ta record is a colon and pairs of hex digits\tthe record's byte count is not that of its bytes\tthe record's type is \tan end record has no bytes, and address 0000\ttext follows the end record\tthe sum is wrong; \ta byte stands at \tthe byte at \tthere is no end record\taddress ";
-    let tails =
-        b"\t\t\t, and only 00 (data) and 01 (end) are taken\t\t\t would be right\t, and an image ends at 0x007F\t was set by an earlier record\t\t is not set";
-    let at = put(field(heads, b'\t', row), out, at);
-    let at = put_figure(figure, out, at);
-    put(field(tails, b'\t', row), out, at)
-}
-
-pub fn put_words(f: HexFault, out: &mut [u8], at: usize) -> usize
-    requires { at + 450 ≤ length out.old }
-    ensures appended { Appended (words_of f) at out.old result out.new }
-    ensures upper_bound { result ≤ at + 450 }
-{
-    let p = phrase_of(f);
-    let figure = p.1;
-    put_phrase(p.0, figure, out, at)
 }

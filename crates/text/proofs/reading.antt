@@ -1,4 +1,3 @@
 pub mod Tests
 pub mod Parted
-pub mod Alike
 pub mod Parts

@@ -1,10 +1,8 @@
 -- Decimal numbers: digits alone, at least one; a sign in front where a number may be below zero.
-use Rattle.std.specs.Prelude.{List, [], ◌∷◌, Bool, cond, ◌&&◌, ℕ, ◌+◌, ◌*◌, ◌-◌, ◌≤◌, eqb, leb, ltb, length, pos, neg_ℤ}
+use Rattle.std.specs.Prelude.{List, [], ◌∷◌, Bool, cond, ◌&&◌, ℕ, ◌+◌, ◌*◌, ◌-◌, eqb, leb, ltb, length, ℤ, pos, neg_ℤ, Result, Ok, Err}
 use Rattle.text.specs.Words.{all}
-use Rattle.text.specs.declared.read_decimals.Number.{Number}
-use Rattle.text.specs.declared.read_decimals.Number.TheVariants.{Is, NotDigits, Over}
-use Rattle.text.specs.declared.read_decimals.Signed.{Signed}
-use Rattle.text.specs.declared.read_decimals.Signed.TheVariants as signed
+use Rattle.text.specs.declared.read_decimals.NumberError.{NumberError}
+use Rattle.text.specs.declared.read_decimals.NumberError.TheVariants.{NotDigits, Over}
 
 abbrev pub is_digit : ℕ → Bool
 is_digit b = leb 48 b && leb b 57
@@ -17,29 +15,22 @@ abbrev pub value_from : List ℕ → ℕ → ℕ
 value_from [] n = n
 value_from (b ∷ s) n = value_from s (n * 10 + (b - 48))
 
-unfoldable pub valued : ℕ → List ℕ → Number
-valued most s = cond (leb (value_from s 0) most) (Is (value_from s 0)) Over
+unfoldable pub valued : ℕ → List ℕ → Result ℕ NumberError
+valued most s = cond (leb (value_from s 0) most) (Ok (value_from s 0)) (Err Over)
 
 -- a number from 0 to most
-unfoldable pub number_of : ℕ → List ℕ → Number
-number_of most s = cond (digits s) (valued most s) NotDigits
+unfoldable pub number_of : ℕ → List ℕ → Result ℕ NumberError
+number_of most s = cond (digits s) (valued most s) (Err NotDigits)
 
-abbrev pub positive : Number → Signed
-positive (Is n) = signed.Is (pos n)
-positive NotDigits = signed.NotDigits
-positive Over = signed.Over
+abbrev pub positive : Result ℕ NumberError → Result ℤ NumberError
+positive (Ok n) = Ok (pos n)
+positive (Err e) = Err e
 
-abbrev pub negated : Number → Signed
-negated (Is n) = signed.Is (neg_ℤ (pos n))
-negated NotDigits = signed.NotDigits
-negated Over = signed.Over
+abbrev pub negated : Result ℕ NumberError → Result ℤ NumberError
+negated (Ok n) = Ok (neg_ℤ (pos n))
+negated (Err e) = Err e
 
 -- a number of 32 bits with a sign
-unfoldable pub signed_of : List ℕ → Signed
-signed_of [] = signed.NotDigits
+unfoldable pub signed_of : List ℕ → Result ℤ NumberError
+signed_of [] = Err NotDigits
 signed_of (b ∷ s) = cond (eqb b 45) (negated (number_of 2147483648 s)) (positive (number_of 2147483647 (b ∷ s)))
-
-abbrev pub AtMost : ℕ → Number → Type 0
-AtMost most (Is n) = n ≤ most
-AtMost most NotDigits = Unit
-AtMost most Over = Unit

@@ -1,11 +1,11 @@
 -- Bytes as hexadecimal digits, two a byte, the high one first.
-use Rattle.std.specs.Prelude.{List, [], ◌∷◌, ◌++◌, Bool, cond, ◌&&◌, ◌||◌, ℕ, ◌+◌, ◌*◌, ◌-◌, ◌/◌, ◌%◌, eqb, leb, length, drop}
+use Rattle.std.specs.Prelude.{List, [], ◌∷◌, ◌++◌, Bool, cond, ◌&&◌, ◌||◌, ℕ, ◌+◌, ◌*◌, ◌-◌, ◌/◌, ◌%◌, eqb, leb, length, drop, Result, Ok, Err}
 use Rattle.text.specs.Words.{all}
 use Rattle.text.specs.Decimal.{is_digit}
 use Rattle.text.specs.declared.hex.Case.{Case}
 use Rattle.text.specs.declared.hex.Case.TheVariants.{Lower, Upper}
-use Rattle.text.specs.declared.hex.Bytes.{Bytes}
-use Rattle.text.specs.declared.hex.Bytes.TheVariants.{Are, NotHex, Over}
+use Rattle.text.specs.declared.hex.BytesError.{BytesError}
+use Rattle.text.specs.declared.hex.BytesError.TheVariants.{NotHex, Over}
 
 -- the letter that stands for ten
 abbrev pub ten : Case → ℕ
@@ -39,10 +39,10 @@ bytes_of a [] = []
 bytes_of a (h ∷ []) = []
 bytes_of a (h ∷ l ∷ s) = (nibble a h * 16 + nibble a l) ∷ bytes_of a s
 
--- the bytes that s says where there is room for so many
-unfoldable pub bytes_read : Case → List ℕ → ℕ → Bytes
+-- how many bytes s says, where there is room for so many
+unfoldable pub bytes_read : Case → List ℕ → ℕ → Result ℕ BytesError
 bytes_read c s room =
-    cond (hex_digits (ten c) s) (cond (leb (length s / 2) room) (Are (length s / 2)) Over) NotHex
+    cond (hex_digits (ten c) s) (cond (leb (length s / 2) room) (Ok (length s / 2)) (Err Over)) (Err NotHex)
 
 -- and what they make of the place that was lent
 unfoldable pub bytes_left : Case → List ℕ → List ℕ → List ℕ

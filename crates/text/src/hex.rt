@@ -5,16 +5,15 @@ ghost use Rattle.text.specs.Hex.{ten as ten_of, is_letter, is_nibble, nibble as 
 use crate::read_decimals::is_digit;
 
 // Which letters stand for the digits from ten on.
-#[derive(Clone, Copy)]
+#[derive(Clone, Copy, PartialEq, Eq)]
 pub enum Case {
     Lower,
     Upper,
 }
 
-// What a text says, read as bytes.
-#[derive(Clone, Copy)]
-pub enum Bytes {
-    Are(usize),
+// Why a text says no bytes: it has other characters or half a byte, or says more bytes than there is room for.
+#[derive(Clone, Copy, PartialEq, Eq)]
+pub enum BytesError {
     NotHex,
     Over,
 }
@@ -32,20 +31,14 @@ pub fn ten(case: Case) -> u8
 fn is_letter(b: u8, a: u8) -> bool
     ensures { result ≡ is_letter a b }
 {
-    if b < a {
-        return false;
-    }
-    b - a <= 5
+    b >= a && b - a <= 5
 }
 
 // A digit where the letter a stands for ten.
 pub fn is_nibble(b: u8, a: u8) -> bool
     ensures { result ≡ is_nibble a b }
 {
-    if is_digit(b) {
-        return true;
-    }
-    is_letter(b, a)
+    is_digit(b) || is_letter(b, a)
 }
 
 // What a digit is worth, 0 where it is none.
@@ -53,22 +46,19 @@ pub fn nibble(b: u8, a: u8) -> u8
     ensures { (result ≡ nibble_of a b) × (result ≤ 15) }
 {
     if is_digit(b) {
-        return b - b'0';
+        b - b'0'
+    } else if is_letter(b, a) {
+        b - a + 10
+    } else {
+        0
     }
-    if is_letter(b, a) {
-        return b - a + 10;
-    }
-    0
 }
 
 // A digit of either letter case.
 pub fn is_any_digit(b: u8) -> bool
     ensures { result ≡ any_digit b }
 {
-    if is_nibble(b, b'A') {
-        return true;
-    }
-    is_nibble(b, b'a')
+    is_nibble(b, b'A') || is_nibble(b, b'a')
 }
 
 // What it is worth, 0 where it is none.
@@ -76,39 +66,24 @@ pub fn worth(b: u8) -> u8
     ensures { (result ≡ worth_of b) × (result ≤ 15) }
 {
     if is_nibble(b, b'A') {
-        return nibble(b, b'A');
+        nibble(b, b'A')
+    } else {
+        nibble(b, b'a')
     }
-    nibble(b, b'a')
 }
 
-#[tactic(auto, using(crate::proofs::reading::Tests::fails), unfolding(crate::specs::Hex::hex_digits))]
 fn hex_digits(s: &[u8], a: u8) -> bool
     ensures { result ≡ hex_digits a s.now }
 {
-    if s.len() % 2 != 0 {
-        return false;
-    }
-    let mut i = 0;
-    while i < s.len() {
-        if is_nibble(s[i], a) {
-            i += 1;
-        } else {
-            return false;
-        }
-    }
-    true
+    s.len() % 2 == 0 && s.iter().all(|&b| is_nibble(b, a))
 }
 
 fn decode(s: &[u8], a: u8, out: &mut [u8])
     requires { length s.now / 2 ≤ length out.old }
     ensures { out.new ≡ bytes_of a s.now ++ drop (length s.now / 2) out.old }
 {
-    let mut i = 0;
-    let mut j = 0;
-    while s.len() - j > 1 {
-        out[i] = nibble(s[j], a) * 16 + nibble(s[j + 1], a);
-        i += 1;
-        j += 2;
+    for i in 0..s.len() / 2 {
+        out[i] = nibble(s[2 * i], a) * 16 + nibble(s[2 * i + 1], a);
     }
 }
 
@@ -119,20 +94,19 @@ pub fn is_hex(s: &[u8], case: Case) -> bool
     hex_digits(s, ten(case))
 }
 
-// Puts the bytes that the text says at the start of out, where out has room for them; else out stays as it is.
+// Puts the bytes that the text says at the start of out, where out has room for them, and answers how many; else out stays as it is.
 #[tactic(auto, unfolding(crate::specs::Hex::bytes_read, crate::specs::Hex::bytes_left))]
-pub fn read_hex(s: &[u8], case: Case, out: &mut [u8]) -> Bytes
+pub fn read_hex(s: &[u8], case: Case, out: &mut [u8]) -> Result<usize, BytesError>
     ensures { (result ≡ bytes_read case s.now (length out.old)) × (out.new ≡ bytes_left case s.now out.old) }
 {
     let a = ten(case);
     let n = s.len() / 2;
-    if hex_digits(s, a) {
-        if n > out.len() {
-            return Bytes::Over;
-        }
-        decode(s, a, out);
-        Bytes::Are(n)
-    } else {
-        Bytes::NotHex
+    if !hex_digits(s, a) {
+        return Err(BytesError::NotHex);
     }
+    if n > out.len() {
+        return Err(BytesError::Over);
+    }
+    decode(s, a, out);
+    Ok(n)
 }

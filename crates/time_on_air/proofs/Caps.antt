@@ -1,5 +1,6 @@
 -- Numbers are told apart up to 2^32 alone, and a packet's numbers above it are all refused alike.
 -- Assumes nothing.
+use Rattle.std.specs.Prelude.{Ok}
 use mathlib.Core.Path.{◌≡◌, refl, sym, ◌∙◌, ap}
 use mathlib.Core.Logic.{⊎_elim}
 use mathlib.Core.Bool.{true, false}
@@ -10,7 +11,6 @@ use borrow.Author.Tests.{leb-true, leb-false, le-leb, lt-leb, eqb-true, eqb-fals
 use lib.Dec.{leb, eqb}
 use lib.ListN.{get_or}
 use Rattle.time_on_air.specs.declared.packet.Packet.{Packet}
-use Rattle.time_on_air.specs.declared.packet.Judged.TheVariants.{Fine}
 use Rattle.time_on_air.specs.Packet.{sheet_fault, flag_fault, code_fault, packet_fault, Counts}
 use Rattle.time_on_air.specs.Lines.{packet_of}
 use Rattle.text.proofs.reading.Tests.{decided}
@@ -94,7 +94,7 @@ module _ (ns ms : List ℕ) (e : caps ns ≡ caps ms) where
   pub same_fault : packet_fault (packet_of ns) ≡ packet_fault (packet_of ms)
   same_fault = sym (capped_fault (packet_of ns)) ∙ ap packet_fault same_capped ∙ capped_fault (packet_of ms)
 
-  pub same_packet : packet_fault (packet_of ms) ≡ Fine → packet_of ns ≡ packet_of ms
+  pub same_packet : packet_fault (packet_of ms) ≡ Ok tt → packet_of ns ≡ packet_of ms
   same_packet f =
       sym (capped_same (packet_of ns) (accepted (packet_of ns) (same_fault ∙ f)))
       ∙ same_capped

@@ -1,5 +1,6 @@
 -- A line read from its beginning: it is refused by the fault of its definition, and says the packet that it says there.
 -- Assumes nothing.
+use Rattle.std.specs.Prelude.{Ok, Err}
 use mathlib.Core.Path.{◌≡◌, refl, sym, ◌∙◌, ap₂}
 use mathlib.Core.Logic.{⊎_elim}
 use mathlib.Core.Bool.{true, false}
@@ -10,8 +11,7 @@ use borrow.Author.Tests.{ne_eqb, lt-ltb}
 use lib.ListN.{length, take, set, length-set}
 use lib.Seq.{take_all, take-suc-set}
 use Rattle.params.specs.declared.line_faults.LineFault.TheVariants.{Form}
-use Rattle.time_on_air.specs.declared.packet.Judged.{Judged}
-use Rattle.time_on_air.specs.declared.packet.Judged.TheVariants.{Fine, Wrong}
+use Rattle.time_on_air.specs.Packet.{Judged}
 use Rattle.time_on_air.specs.Packet.{packet_fault}
 use Rattle.text.specs.Fields.{parts}
 use Rattle.time_on_air.specs.Lines.{tab, is_number, numbers, form_fault, packet_of, packet_in, otherwise, line_fault}
@@ -32,10 +32,10 @@ held_near (f ∷ fs) = ap₂ (λ (n : ℕ) (ns : List ℕ). n ∷ ns) (number f)
 
 -- what is said of fields, and their fault by the definition
 data Agree : Said → Judged → List ℕ → Type 0 where
-  right : {ns : List ℕ} → length ns ≡ 8 → Agree (says ns) Fine ns
-  wrongly : {k : ℕ} {ns : List ℕ} → Agree (wrong k) (Wrong (Form k)) ns
+  right : {ns : List ℕ} → length ns ≡ 8 → Agree (says ns) (Ok tt) ns
+  wrongly : {k : ℕ} {ns : List ℕ} → Agree (wrong k) (Err (Form k)) ns
 
-right_as : (ns ms : List ℕ) → length ns ≡ 8 → ns ≡ ms → Agree (says ns) Fine ms
+right_as : (ns ms : List ℕ) → length ns ≡ 8 → ns ≡ ms → Agree (says ns) (Ok tt) ms
 right_as ns ms l e = rw (sym e) (right l)
 
 last_set : (ns : List ℕ) (v : ℕ) → length ns ≡ 8 → set ns 7 v ≡ take 7 ns ++ (v ∷ [])
@@ -88,14 +88,14 @@ agree ns f fs l =
 -- what a line says is refused as its definition refuses it; what is not refused is its packet, in eight numbers
 pub record Judges (said : Said) (line : List ℕ) : Type 0 where
   pub faults : said_fault said ≡ line_fault line
-  pub packets : line_fault line ≡ Fine → packet_of (said_numbers said) ≡ packet_in line
-  pub eight : line_fault line ≡ Fine → length (said_numbers said) ≡ 8
+  pub packets : line_fault line ≡ Ok tt → packet_of (said_numbers said) ≡ packet_in line
+  pub eight : line_fault line ≡ Ok tt → length (said_numbers said) ≡ 8
 
 module _ (ms : List ℕ) where
   from_form : {said : Said} {form : Judged} {ns : List ℕ} → Agree said form ns → caps ns ≡ caps ms
       → (said_fault said ≡ otherwise form (packet_fault (packet_of ms)))
-      × (otherwise form (packet_fault (packet_of ms)) ≡ Fine → packet_of (said_numbers said) ≡ packet_of ms)
-      × (otherwise form (packet_fault (packet_of ms)) ≡ Fine → length (said_numbers said) ≡ 8)
+      × (otherwise form (packet_fault (packet_of ms)) ≡ Ok tt → packet_of (said_numbers said) ≡ packet_of ms)
+      × (otherwise form (packet_fault (packet_of ms)) ≡ Ok tt → length (said_numbers said) ≡ 8)
   from_form (right {ns} l) e = (same_fault ns ms e, same_packet ns ms e, λ f. l)
   from_form wrongly e = (refl, λ f. cc, λ f. cc)
 

@@ -1,5 +1,6 @@
 -- Read from the start, a text comes to its report: the first bad line, or the sums of all packets, rounded up.
 -- Assumes nothing.
+use Rattle.std.specs.Prelude.{Ok, Err}
 use mathlib.Core.Path.{◌≡◌, refl, sym, ◌∙◌, ap}
 use mathlib.Core.Logic.{◌⊎◌, inl, inr, ⊎_elim}
 use mathlib.Core.Bool.{Bool, true, false, cond}
@@ -12,8 +13,7 @@ use lib.ListN.{length, get_or, length-set, replicate}
 use lib.Seq.{get_or-set_same, get_or-set_other}
 use Rattle.params.specs.declared.line_faults.LineFault.{LineFault}
 use Rattle.time_on_air.specs.declared.packet.Packet.{Packet}
-use Rattle.time_on_air.specs.declared.packet.Judged.{Judged}
-use Rattle.time_on_air.specs.declared.packet.Judged.TheVariants.{Fine, Wrong}
+use Rattle.time_on_air.specs.Packet.{Judged}
 use Rattle.time_on_air.specs.Packet.{packet_fault, Counts}
 use Rattle.time_on_air.specs.Symbols.{quarter_chips}
 use Rattle.text.specs.Fields.{parts}
@@ -87,15 +87,15 @@ one_more n sums line m ls r s c =
 
 -- ---- lines
 
-judged : (j : Judged) → (j ≡ Fine) ⊎ ((f : LineFault) × (j ≡ Wrong f))
-judged Fine = inl refl
-judged (Wrong f) = inr (f, refl)
+judged : (j : Judged) → (j ≡ Ok tt) ⊎ ((f : LineFault) × (j ≡ Err f))
+judged (Ok tt) = inl refl
+judged (Err f) = inr (f, refl)
 
-then_fine : (j k : Judged) → otherwise j k ≡ Fine → k ≡ Fine
-then_fine Fine k h = h
-then_fine (Wrong f) k h = cc
+then_fine : (j k : Judged) → otherwise j k ≡ Ok tt → k ≡ Ok tt
+then_fine (Ok tt) k h = h
+then_fine (Err f) k h = cc
 
-packet_fine : (line : List ℕ) → line_fault line ≡ Fine → packet_fault (packet_in line) ≡ Fine
+packet_fine : (line : List ℕ) → line_fault line ≡ Ok tt → packet_fault (packet_in line) ≡ Ok tt
 unfolding line_fault
 packet_fine line h = then_fine (form_fault 0 8 (parts tab line)) (packet_fault (packet_in line)) h
 
@@ -120,12 +120,12 @@ whole p (m ∷ ls) n sums ns l k s =
     ⊎_elim
     (λ (e : leb (suc n) most_lines ≡ true). rw (e, j.faults)
     (⊎_elim
-    (λ (f : line_fault p ≡ Fine). let r : n < most_lines = leb-true (suc n) most_lines e in
+    (λ (f : line_fault p ≡ Ok tt). let r : n < most_lines = leb-true (suc n) most_lines e in
     let c = accepted (packet_in p) (packet_fine p f) in
     rw (f, j.packets f)
     (whole m ls (suc n) (added sums (packet_in p)) (said_numbers (line_from false ns 0 0 p)) r (j.eight f) (still_small n sums (packet_in p) r s c)
     ∙ ap (outcome_of (first_bad (suc (suc n)) (m ∷ ls))) (one_more n sums p m ls r s c)))
-    (λ (f : (f : LineFault) × (line_fault p ≡ Wrong f)). rw f.1)
+    (λ (f : (f : LineFault) × (line_fault p ≡ Err f)). rw f.1)
     (judged (line_fault p))))
     (λ (e : leb (suc n) most_lines ≡ false). let h = leb-false (suc n) most_lines e in
     let i : n ≡ most_lines = omega arith in

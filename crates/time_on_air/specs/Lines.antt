@@ -1,12 +1,10 @@
 -- A depot's file (document 02, request [1]): a text of lines, a line of eight numbers.
-use Rattle.std.specs.Prelude.{Bool, ◌&&◌, ◌||◌, not, List, [], ◌∷◌, ℕ, zero, suc, eqb, length, get_or}
+use Rattle.std.specs.Prelude.{Bool, ◌&&◌, ◌||◌, not, List, [], ◌∷◌, ℕ, zero, suc, eqb, length, get_or, Ok, Err}
 use Rattle.text.specs.Fields.{parts}
 use Rattle.text.specs.Decimal.{digits, value_from}
 use Rattle.params.specs.declared.line_faults.LineFault.TheVariants.{Form}
 use Rattle.time_on_air.specs.declared.packet.Packet.{Packet}
-use Rattle.time_on_air.specs.declared.packet.Judged.{Judged}
-use Rattle.time_on_air.specs.declared.packet.Judged.TheVariants.{Fine, Wrong}
-use Rattle.time_on_air.specs.Packet.{unless, packet_fault}
+use Rattle.time_on_air.specs.Packet.{Judged, unless, packet_fault}
 
 abbrev pub tab : ℕ
 tab = 9
@@ -25,9 +23,9 @@ numbers (f ∷ fs) = value_from f 0 ∷ numbers fs
 
 -- the first field, of n from number k on, that is missing or no number; behind them there is none
 abbrev pub form_fault : ℕ → ℕ → List (List ℕ) → Judged
-form_fault k zero [] = Fine
-form_fault k zero (f ∷ fs) = Wrong (Form k)
-form_fault k (suc n) [] = Wrong (Form k)
+form_fault k zero [] = Ok tt
+form_fault k zero (f ∷ fs) = Err (Form k)
+form_fault k (suc n) [] = Err (Form k)
 form_fault k (suc n) (f ∷ fs) = unless (is_number f) (Form k) (form_fault (suc k) n fs)
 
 -- ---- a line: its form comes before what its numbers are
@@ -49,8 +47,8 @@ abbrev pub packet_in : List ℕ → Packet
 packet_in line = packet_of (numbers (parts tab line))
 
 abbrev pub otherwise : Judged → Judged → Judged
-otherwise Fine next = next
-otherwise (Wrong f) next = Wrong f
+otherwise (Ok tt) next = next
+otherwise (Err f) next = Err f
 
 unfoldable pub line_fault : List ℕ → Judged
 line_fault line = otherwise (form_fault 0 8 (parts tab line)) (packet_fault (packet_in line))

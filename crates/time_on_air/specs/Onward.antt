@@ -1,19 +1,14 @@
 -- What a reading comes to: the outcome where these bytes follow those that were read, and then the end. From the start it is the
 -- report's (proofs/Whole.antt); it says what a reading stands for, so that a file can be read piece after piece.
-use Rattle.std.specs.Prelude.{◌≡◌, Bool, true, false, cond, ◌&&◌, not, List, [], ◌∷◌, ◌++◌, ℕ, zero, suc, ◌+◌, ◌*◌, ◌-◌, min, eqb, ltb, get_or, set}
+use Rattle.std.specs.Prelude.{◌≡◌, Bool, true, false, cond, ◌&&◌, not, List, [], ◌∷◌, ◌++◌, ℕ, zero, suc, ◌+◌, ◌*◌, ◌-◌, min, eqb, ltb, get_or, set, ⊤, Result, Ok, Err}
 use Rattle.text.specs.Decimal.{is_digit}
-use Rattle.params.specs.declared.answers.AirtimeAnswer.{AirtimeAnswer}
-use Rattle.params.specs.declared.answers.AirtimeAnswer.TheVariants.{Totals, BadLine}
+use Rattle.params.specs.declared.answers.BadLine.{BadLine}
 use Rattle.params.specs.declared.line_faults.LineFault.{LineFault}
 use Rattle.params.specs.declared.line_faults.LineFault.TheVariants.{Form, Open, Late}
 use Rattle.time_on_air.specs.declared.packet.Packet.{Packet}
-use Rattle.time_on_air.specs.declared.packet.Judged.{Judged}
-use Rattle.time_on_air.specs.declared.packet.Judged.TheVariants.{Fine, Wrong}
 use Rattle.time_on_air.specs.declared.reading.Reading.{Reading}
-use Rattle.time_on_air.specs.declared.turns.Place.{Place}
-use Rattle.time_on_air.specs.declared.turns.Turn.{Turn}
-use Rattle.time_on_air.specs.declared.turns.Turn.TheVariants.{On, Bad}
-use Rattle.time_on_air.specs.Packet.{packet_fault}
+use Rattle.time_on_air.specs.declared.turns.Progress.{Progress}
+use Rattle.time_on_air.specs.Packet.{Judged, packet_fault}
 use Rattle.time_on_air.specs.Symbols.{quarter_chips}
 use Rattle.text.specs.Fields.{parts}
 use Rattle.time_on_air.specs.Lines.{tab, lf, packet_of}
@@ -25,19 +20,19 @@ pub data Outcome : Type 0 where
   sent : List ℕ → Outcome
   bad : LineFault → ℕ → Outcome
 
-abbrev pub outcome_of : AirtimeAnswer → List ℕ → Outcome
-outcome_of Totals ts = sent ts
-outcome_of (BadLine f n) ts = bad f n
+abbrev pub outcome_of : Result ⊤ BadLine → List ℕ → Outcome
+outcome_of (Ok tt) ts = sent ts
+outcome_of (Err b) ts = bad b.fault b.line
 
-abbrev pub answer_of : Outcome → AirtimeAnswer
-answer_of (sent ts) = Totals
-answer_of (bad f n) = BadLine f n
+abbrev pub answer_of : Outcome → Result ⊤ BadLine
+answer_of (sent ts) = Ok tt
+answer_of (bad f n) = Err (record { fault = f; line = n })
 
 abbrev pub left_by : Outcome → List ℕ → List ℕ
 left_by (sent ts) old = ts
 left_by (bad f n) old = old
 
-pub record Ends (o : Outcome) (before : List ℕ) (answer : AirtimeAnswer) (after : List ℕ) : Type 0 where
+pub record Ends (o : Outcome) (before : List ℕ) (answer : Result ⊤ BadLine) (after : List ℕ) : Type 0 where
   pub answers : answer ≡ answer_of o
   pub totalled : after ≡ left_by o before
 
@@ -87,7 +82,7 @@ line_from false ns k held line = fields_from ns k held (parts tab line)
 
 abbrev pub said_fault : Said → Judged
 said_fault (says ns) = packet_fault (packet_of ns)
-said_fault (wrong k) = Wrong (Form k)
+said_fault (wrong k) = Err (Form k)
 
 abbrev pub said_numbers : Said → List ℕ
 said_numbers (says ns) = ns
@@ -105,8 +100,8 @@ unfoldable pub added : List ℕ → Packet → List ℕ
 added sums p = set sums p.bandwidth (grown (get_or sums p.bandwidth 0) (quarter_chips p))
 
 abbrev pub summed : Judged → List ℕ → Packet → List ℕ
-summed Fine sums p = added sums p
-summed (Wrong f) sums p = sums
+summed (Ok tt) sums p = added sums p
+summed (Err f) sums p = sums
 
 unfoldable pub rounded : List ℕ → List ℕ
 rounded sums = each (λ bw. microseconds bw (min (get_or sums bw 0) most_sum))
@@ -128,8 +123,8 @@ abbrev pub bad_line : LineFault → ℕ → Outcome
 bad_line f lines = cond (ltb lines most_lines) (bad f (suc lines)) late
 
 abbrev pub or_bad : ℕ → Judged → Outcome → Outcome
-or_bad n Fine next = next
-or_bad n (Wrong f) next = bad f n
+or_bad n (Ok tt) next = next
+or_bad n (Err f) next = bad f n
 
 abbrev pub onward : ℕ → List ℕ → Bool → List ℕ → ℕ → ℕ → List (List ℕ) → Outcome
 onward lines sums skipping ns k held [] = late
@@ -144,24 +139,22 @@ onward lines sums skipping ns k held (line ∷ m ∷ ls) =
 
 -- ---- a reading
 
-abbrev pub unless_bad : AirtimeAnswer → Outcome → Outcome
-unless_bad Totals o = o
-unless_bad (BadLine f n) o = bad f n
+abbrev pub from : Progress → List (List ℕ) → Outcome
+from p ps = onward p.lines p.sums p.skipping p.numbers p.field p.held ps
 
-abbrev pub from : Place → List ℕ → List ℕ → List (List ℕ) → Outcome
-from p sums ns ps = onward p.lines sums p.skipping ns p.field p.held ps
+abbrev pub goes_to : Progress → List ℕ → Outcome
+goes_to p text = from p (parts lf text)
 
-abbrev pub goes_to : Reading → List ℕ → Outcome
-goes_to r text = from r.place r.sums r.numbers (parts lf text)
+-- a bad line stays, whatever follows
+abbrev pub unless_bad : Result Progress BadLine → List ℕ → Outcome
+unless_bad (Ok p) text = goes_to p text
+unless_bad (Err b) text = bad b.fault b.line
 
 unfoldable pub comes_to : Reading → List ℕ → Outcome
-comes_to r text = unless_bad r.answer (goes_to r text)
+comes_to r text = unless_bad r.so_far text
 
-abbrev pub Refuses : LineFault → ℕ → Reading → Type 0
-Refuses f lines r = (text : List ℕ) → comes_to r text ≡ bad_line f lines
-
-abbrev pub GoesOn : Reading → List ℕ → Reading → Type 0
-GoesOn before piece after = (text : List ℕ) → comes_to after text ≡ goes_to before (piece ++ text)
+abbrev pub GoesOn : Progress → List ℕ → Result Progress BadLine → Type 0
+GoesOn before piece after = (text : List ℕ) → unless_bad after text ≡ goes_to before (piece ++ text)
 
 -- a reading that stands for all of a text before these bytes stands after them for that text with them
 abbrev pub Continues : Reading → List ℕ → Reading → Type 0
@@ -172,21 +165,20 @@ Begins r = (text : List ℕ) → comes_to r text ≡ outcome_of (verdict text) (
 
 -- ---- a turn, behind which these parts are left
 
-abbrev pub turned : Turn → ℕ → List ℕ → List ℕ → List (List ℕ) → Outcome
-turned (On p) lines sums ns ps = from p sums ns ps
-turned (Bad f) lines sums ns ps = bad_line f lines
+abbrev pub turned : Judged → ℕ → Progress → List (List ℕ) → Outcome
+turned (Ok tt) lines p ps = from p ps
+turned (Err f) lines p ps = bad_line f lines
 
 -- a byte that is no digit of a number is taken
-abbrev pub Turned : List ℕ → List ℕ → Place → ℕ → Turn → List ℕ → List ℕ → Type 0
-Turned sums ns p b turn sums' ns' =
-    (text : List ℕ) → turned turn p.lines sums' ns' (parts lf text) ≡ from p sums ns (parts lf (b ∷ text))
+abbrev pub Turned : Progress → ℕ → Judged → Progress → Type 0
+Turned p b turn p' = (text : List ℕ) → turned turn p.lines p' (parts lf text) ≡ from p (parts lf (b ∷ text))
 
 -- the eighth number is held, and its line ends
-abbrev pub line_ends : List ℕ → List ℕ → Place → List (List ℕ) → Outcome
-line_ends sums ns p ps =
-    let ms = set ns 7 (p.held - 1) in
+abbrev pub line_ends : Progress → List (List ℕ) → Outcome
+line_ends p ps =
+    let ms = set p.numbers 7 (p.held - 1) in
     cond (ltb p.lines most_lines)
-    (or_bad (suc p.lines) (packet_fault (packet_of ms)) (onward (suc p.lines) (added sums (packet_of ms)) p.skipping ms 0 0 ps)) late
+    (or_bad (suc p.lines) (packet_fault (packet_of ms)) (onward (suc p.lines) (added p.sums (packet_of ms)) p.skipping ms 0 0 ps)) late
 
-abbrev pub LineEnds : List ℕ → List ℕ → Place → Turn → List ℕ → List ℕ → Type 0
-LineEnds sums ns p turn sums' ns' = (ps : List (List ℕ)) → turned turn p.lines sums' ns' ps ≡ line_ends sums ns p ps
+abbrev pub LineEnds : Progress → Judged → Progress → Type 0
+LineEnds p turn p' = (ps : List (List ℕ)) → turned turn p.lines p' ps ≡ line_ends p ps

@@ -1,20 +1,21 @@
 -- A packet's eight numbers, and which of them are refused (document 02, request [1]): first what is out of its range, then a code
 -- that names no case, then what the sheets do not have.
-use Rattle.std.specs.Prelude.{Bool, cond, ◌&&◌, not, ℕ, ◌≤◌, eqb, leb}
+use Rattle.std.specs.Prelude.{Bool, cond, ◌&&◌, not, ℕ, ◌≤◌, eqb, leb, ⊤, Result, Ok, Err}
 use Rattle.params.specs.declared.line_faults.LineFault.{LineFault}
 use Rattle.params.specs.declared.line_faults.LineFault.TheVariants.{Id, Preamble, Length, SpreadingFactor, Bandwidth, CodingRate, Header, Crc, Sf5, Sf6Explicit}
 use Rattle.time_on_air.specs.declared.packet.Packet.{Packet}
-use Rattle.time_on_air.specs.declared.packet.Judged.{Judged}
-use Rattle.time_on_air.specs.declared.packet.Judged.TheVariants.{Fine, Wrong}
+
+abbrev pub Judged : Type 0
+Judged = Result ⊤ LineFault
 
 -- the judgement of what is left, where this is right
 abbrev pub unless : Bool → LineFault → Judged → Judged
-unless right f next = cond right next (Wrong f)
+unless right f next = cond right next (Err f)
 
 -- SF5, which the radios do not have, and SF6, which they have with an implicit header alone
 unfoldable pub sheet_fault : ℕ → ℕ → Judged
 sheet_fault sf implicit =
-    unless (not (eqb sf 5)) Sf5 (unless (not (eqb sf 6 && eqb implicit 0)) Sf6Explicit Fine)
+    unless (not (eqb sf 5)) Sf5 (unless (not (eqb sf 6 && eqb implicit 0)) Sf6Explicit (Ok tt))
 
 unfoldable pub flag_fault : ℕ → ℕ → ℕ → Judged
 flag_fault sf implicit crc = unless (leb implicit 1) Header (unless (leb crc 1) Crc (sheet_fault sf implicit))

@@ -1,15 +1,12 @@
 -- Airtime per depot (document 02, request [1]): from the text of a file to ten totals in microseconds, or the first bad line.
-use Rattle.std.specs.Prelude.{◌≡◌, cond, List, [], ◌∷◌, ℕ, suc, ◌+◌, ◌*◌, eqb, leb}
+use Rattle.std.specs.Prelude.{◌≡◌, cond, List, [], ◌∷◌, ℕ, suc, ◌+◌, ◌*◌, eqb, leb, ⊤, Result, Ok, Err}
 use Rattle.sheets.specs.Modem.{hertz}
 use Rattle.params.specs.Errors.{Told}
 use Rattle.params.specs.Answers.{tells_airtime}
-use Rattle.params.specs.declared.answers.AirtimeAnswer.{AirtimeAnswer}
-use Rattle.params.specs.declared.answers.AirtimeAnswer.TheVariants.{Totals, BadLine}
+use Rattle.params.specs.declared.answers.BadLine.{BadLine}
 use Rattle.params.specs.declared.line_faults.LineFault.TheVariants.{Open, Late}
 use Rattle.time_on_air.specs.declared.packet.Packet.{Packet}
-use Rattle.time_on_air.specs.declared.packet.Judged.{Judged}
-use Rattle.time_on_air.specs.declared.packet.Judged.TheVariants.{Fine, Wrong}
-use Rattle.time_on_air.specs.Packet.{unless}
+use Rattle.time_on_air.specs.Packet.{Judged, unless}
 use Rattle.time_on_air.specs.Symbols.{ceil, quarter_chips}
 use Rattle.text.specs.Fields.{parts}
 use Rattle.time_on_air.specs.Lines.{lf, packet_in, line_fault}
@@ -24,19 +21,19 @@ line_judged n line = unless (leb n most_lines) Late (line_fault line)
 
 -- an end that is missing
 abbrev pub rest_judged : ℕ → List ℕ → Judged
-rest_judged n [] = Fine
-rest_judged n (b ∷ rest) = unless (leb n most_lines) Late (Wrong Open)
+rest_judged n [] = Ok tt
+rest_judged n (b ∷ rest) = unless (leb n most_lines) Late (Err Open)
 
-abbrev pub or_bad : ℕ → Judged → AirtimeAnswer → AirtimeAnswer
-or_bad n Fine next = next
-or_bad n (Wrong f) next = BadLine f n
+abbrev pub or_bad : ℕ → Judged → Result ⊤ BadLine → Result ⊤ BadLine
+or_bad n (Ok tt) next = next
+or_bad n (Err f) next = Err (record { fault = f; line = n })
 
-abbrev pub first_bad : ℕ → List (List ℕ) → AirtimeAnswer
-first_bad n [] = Totals
-first_bad n (rest ∷ []) = or_bad n (rest_judged n rest) Totals
+abbrev pub first_bad : ℕ → List (List ℕ) → Result ⊤ BadLine
+first_bad n [] = Ok tt
+first_bad n (rest ∷ []) = or_bad n (rest_judged n rest) (Ok tt)
 first_bad n (line ∷ m ∷ ls) = or_bad n (line_judged n line) (first_bad (suc n) (m ∷ ls))
 
-unfoldable pub verdict : List ℕ → AirtimeAnswer
+unfoldable pub verdict : List ℕ → Result ⊤ BadLine
 verdict text = first_bad 1 (parts lf text)
 
 -- ---- totals: a bandwidth of so many hertz has as many chips a second, so a quarter chip is 250,000 / hertz microseconds
@@ -62,12 +59,12 @@ totals text = each (λ bw. microseconds bw (sum bw (parts lf text)))
 
 -- ---- the report
 
-abbrev pub leaves : AirtimeAnswer → List ℕ → List ℕ → List ℕ
-leaves Totals new old = new
-leaves (BadLine f n) new old = old
+abbrev pub leaves : Result ⊤ BadLine → List ℕ → List ℕ → List ℕ
+leaves (Ok tt) new old = new
+leaves (Err bad) new old = old
 
 -- a refusal leaves the lent totals as they were
-pub record Reported (text : List ℕ) (before : List ℕ) (answer : AirtimeAnswer) (after : List ℕ) : Type 0 where
+pub record Reported (text : List ℕ) (before : List ℕ) (answer : Result ⊤ BadLine) (after : List ℕ) : Type 0 where
   pub answers : answer ≡ verdict text
   pub totalled : after ≡ leaves (verdict text) (totals text) before
 

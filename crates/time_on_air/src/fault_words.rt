@@ -1,83 +1,81 @@
 // What is wrong with a line of a depot's file, in words.
-ghost use Rattle.std.specs.Prelude.{◌≡◌, ◌+◌, ◌≤◌, length};
-ghost use Rattle.text.specs.Text.{Appended};
+#![tactic(auto, using(text::proofs::printing::Appending::texts))]
+
+ghost use Rattle.std.specs.Prelude.{◌≡◌, ◌++◌, ◌+◌, ◌≤◌, length};
+ghost use Rattle.text.specs.Text.{Put, Space};
 ghost use Rattle.params.specs.declared.line_faults.LineFault.TheVariants.{Form};
-ghost use Rattle.time_on_air.specs.FaultWords.{named, head, phrase, words_of};
+ghost use Rattle.time_on_air.specs.FaultWords.{name_of, named, words_of};
 
 use params::line_faults::LineFault;
-use text::printing::put;
-use text::put_decimals::put_decimal;
-use text::reading::field;
+use text::printing::Text;
 
-// The field that is wrong, counted from 0, or 8 where it is none of the eight; and the row of the table that has the reason.
-#[derive(Clone, Copy)]
-struct Phrase {
-    field: usize,
-    row: usize,
+fn put_name(k: usize, out: &mut Text<'_>)
+    requires { Space 20 out.old }
+    ensures appended { Put (name_of k) out.old out.new }
+    ensures upper_bound { out.new.end ≤ out.old.end + 20 }
+{
+    match k {
+        0 => out.put(b"the pack id"),
+        1 => out.put(b"the spreading factor"),
+        2 => out.put(b"the bandwidth code"),
+        3 => out.put(b"the coding rate"),
+        4 => out.put(b"the preamble length"),
+        5 => out.put(b"the payload length"),
+        6 => out.put(b"the header flag"),
+        7 => out.put(b"the CRC flag"),
+        _ => {}
+    }
 }
 
-#[tactic(auto, unfolding(text::specs::Bytes::index_of))]
-fn form_phrase(k: usize) -> Phrase
-    ensures { words_of (Form k) ≡ phrase result.field result.row }
+// A field, told from 1 and by its name, and what is wrong with it.
+#[tactic(auto, using(text::proofs::printing::Appending::texts), unfolding(crate::specs::FaultWords::named))]
+fn put_field(k: usize, reason: &[u8], out: &mut Text<'_>)
+    requires { (k ≤ 7) × Space (length reason.now + 50) out.old }
+    ensures appended { Put (named k ++ reason.now) out.old out.new }
+    ensures upper_bound { out.new.end ≤ out.old.end + (length reason.now + 50) }
+{
+    out.put(b"field ");
+    out.put_decimal((k + 1) as u64);
+    out.put(b", ");
+    put_name(k, out);
+    out.put(b", ");
+    out.put(reason);
+}
+
+fn put_form(k: usize, out: &mut Text<'_>)
+    requires { Space 480 out.old }
+    ensures appended { Put (words_of (Form k)) out.old out.new }
+    ensures upper_bound { out.new.end ≤ out.old.end + 480 }
 {
     if k < 8 {
-        Phrase { field: k, row: 3 }
+        put_field(
+            k,
+            b"is missing or no number (digits alone, no leading 0)",
+            out,
+        );
     } else {
-        Phrase { field: 8, row: 2 }
+        out.put(b"a ninth field");
     }
 }
 
-#[tactic(auto, unfolding(text::specs::Bytes::index_of))]
-fn phrase_of(f: LineFault) -> Phrase
-    ensures { words_of f ≡ phrase result.field result.row }
+pub fn put_words(f: LineFault, out: &mut Text<'_>)
+    requires { Space 480 out.old }
+    ensures appended { Put (words_of f) out.old out.new }
+    ensures upper_bound { out.new.end ≤ out.old.end + 480 }
 {
     match f {
-        LineFault::Form(k) => form_phrase(k),
-        LineFault::Open => Phrase { field: 8, row: 0 },
-        LineFault::Late => Phrase { field: 8, row: 1 },
-        LineFault::Id => Phrase { field: 0, row: 4 },
-        LineFault::Preamble => Phrase { field: 4, row: 5 },
-        LineFault::Length => Phrase { field: 5, row: 6 },
-        LineFault::SpreadingFactor => Phrase { field: 1, row: 7 },
-        LineFault::Bandwidth => Phrase { field: 2, row: 8 },
-        LineFault::CodingRate => Phrase { field: 3, row: 9 },
-        LineFault::Header => Phrase { field: 6, row: 10 },
-        LineFault::Crc => Phrase { field: 7, row: 10 },
-        LineFault::Sf5 => Phrase { field: 1, row: 11 },
-        LineFault::Sf6Explicit => Phrase { field: 1, row: 12 },
+        LineFault::Form(k) => put_form(k, out),
+        LineFault::Open => out.put(b"the line does not end with LF"),
+        LineFault::Late => out.put(b"a line after the 50000th"),
+        LineFault::Id => put_field(0, b"is above 4294967295", out),
+        LineFault::Preamble => put_field(4, b"is above 65535", out),
+        LineFault::Length => put_field(5, b"is above 255", out),
+        LineFault::SpreadingFactor => put_field(1, b"is not 5 to 12", out),
+        LineFault::Bandwidth => put_field(2, b"is not 0 to 9", out),
+        LineFault::CodingRate => put_field(3, b"is not 1 to 4", out),
+        LineFault::Header => put_field(6, b"is not 0 or 1", out),
+        LineFault::Crc => put_field(7, b"is not 0 or 1", out),
+        LineFault::Sf5 => put_field(1, b"is 5, which the radios do not have", out),
+        LineFault::Sf6Explicit => put_field(1, b"is 6, which has no explicit header", out),
     }
-}
-
-fn put_named(k: usize, out: &mut [u8], at: usize) -> usize
-    requires { (k ≤ 7) × (at + 170 ≤ length out.old) }
-    ensures appended { Appended (named k) at out.old result out.new }
-    ensures upper_bound { result ≤ at + 170 }
-{
-    let names =
-        b"the pack id\tthe spreading factor\tthe bandwidth code\tthe coding rate\tthe preamble length\tthe payload length\tthe header flag\tthe CRC flag";
-    let at = put(b"field ", out, at);
-    let at = put_decimal((k + 1) as u64, out, at);
-    let at = put(b", ", out, at);
-    let at = put(field(names, b'\t', k), out, at);
-    put(b", ", out, at)
-}
-
-fn put_head(k: usize, out: &mut [u8], at: usize) -> usize
-    requires { at + 170 ≤ length out.old }
-    ensures appended { Appended (head k) at out.old result out.new }
-    ensures upper_bound { result ≤ at + 170 }
-{
-    if k < 8 { put_named(k, out, at) } else { at }
-}
-
-pub fn put_words(f: LineFault, out: &mut [u8], at: usize) -> usize
-    requires { at + 480 ≤ length out.old }
-    ensures appended { Appended (words_of f) at out.old result out.new }
-    ensures upper_bound { result ≤ at + 480 }
-{
-    let p = phrase_of(f);
-    let at = put_head(p.field, out, at);
-    let reasons =
-        b"the line does not end with LF\ta line after the 50000th\ta ninth field\tis missing or no number (digits alone, no leading 0)\tis above 4294967295\tis above 65535\tis above 255\tis not 5 to 12\tis not 0 to 9\tis not 1 to 4\tis not 0 or 1\tis 5, which the radios do not have\tis 6, which has no explicit header";
-    put(field(reasons, b'\t', p.row), out, at)
 }

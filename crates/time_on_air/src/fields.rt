@@ -16,8 +16,8 @@ pub struct Run {
     pub held: u64,
 }
 
-// What a byte ends that is no digit of a number: a field, a line, or a field or a line that is wrong, with the number of its
-// first wrong field.
+// What a byte ends that is no digit of a number: a field, a line, or a field or a line that is wrong, with the number
+// of its first wrong field.
 #[derive(Clone, Copy)]
 pub enum Ended {
     Field,
@@ -29,10 +29,7 @@ pub enum Ended {
 fn goes_on(held: u64, b: u8) -> bool
     ensures { result ≡ goes_on held b }
 {
-    if is_digit(b) {
-        return held != 1;
-    }
-    false
+    is_digit(b) && held != 1
 }
 
 // One digit more, of a number that is held as one more than it is.
@@ -55,22 +52,19 @@ pub fn digits(piece: &[u8], from: usize, held: u64) -> Run
     requires { from ≤ length piece.now }
     ensures { Stopped piece.now from held result.at result.held }
 {
-    let mut at = from;
-    let mut h = held;
-    while at < piece.len() {
+    let mut held = held;
+    for at in from..piece.len() {
         let b = piece[at];
         // a separator ends most numbers, and is below every digit
-        if b < b'0' {
-            return Run { at, held: h };
+        if b < b'0' || !goes_on(held, b) {
+            return Run { at, held };
         }
-        if goes_on(h, b) {
-            h = more(h, b);
-            at += 1;
-        } else {
-            return Run { at, held: h };
-        }
+        held = more(held, b);
     }
-    Run { at, held: h }
+    Run {
+        at: piece.len(),
+        held,
+    }
 }
 
 // A line that ends before its eighth field lacks the next one.
@@ -114,10 +108,7 @@ fn lf_ends(field: usize) -> Ended
 pub fn ending(skipping: bool, field: usize, held: u64, b: u8) -> Ended
     ensures { (result ≡ ended_by skipping field held b) × Right result field held }
 {
-    if skipping {
-        return wrong_at(field, b);
-    }
-    if held == 0 {
+    if skipping || held == 0 {
         return wrong_at(field, b);
     }
     match b {

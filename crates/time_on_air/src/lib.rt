@@ -3,7 +3,7 @@
 
 ghost use Rattle.time_on_air.specs.Report.{Reported};
 
-use params::answers::AirtimeAnswer;
+use params::answers::BadLine;
 
 pub mod fault_words;
 mod fields;
@@ -16,7 +16,7 @@ mod turns;
 pub use reading::{Reading, feed, finish, start};
 
 // The report on the whole text of a file.
-pub fn airtime(text: &[u8], totals: &mut [u64; 10]) -> AirtimeAnswer
+pub fn airtime(text: &[u8], totals: &mut [u64; 10]) -> Result<(), BadLine>
     ensures { Reported text.now totals.old result totals.new }
 {
     finish(feed(start(), text), totals)

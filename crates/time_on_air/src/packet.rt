@@ -16,75 +16,61 @@ pub struct Packet {
     pub crc_on: u64,
 }
 
-#[derive(Clone, Copy)]
-pub enum Judged {
-    Fine,
-    Wrong(LineFault),
-}
-
 #[tactic(auto, unfolding(crate::specs::Packet::sheet_fault))]
-fn sheet_fault(sf: u64, implicit: u64) -> Judged
+fn sheet_fault(sf: u64, implicit: u64) -> Result<(), LineFault>
     ensures { result ≡ sheet_fault sf implicit }
 {
     if sf == 5 {
-        return Judged::Wrong(LineFault::Sf5);
+        return Err(LineFault::Sf5);
     }
-    if sf == 6 {
-        if implicit == 0 {
-            return Judged::Wrong(LineFault::Sf6Explicit);
-        }
+    if sf == 6 && implicit == 0 {
+        return Err(LineFault::Sf6Explicit);
     }
-    Judged::Fine
+    Ok(())
 }
 
 #[tactic(auto, unfolding(crate::specs::Packet::flag_fault))]
-fn flag_fault(sf: u64, implicit: u64, crc: u64) -> Judged
+fn flag_fault(sf: u64, implicit: u64, crc: u64) -> Result<(), LineFault>
     ensures { result ≡ flag_fault sf implicit crc }
 {
     if implicit > 1 {
-        return Judged::Wrong(LineFault::Header);
+        return Err(LineFault::Header);
     }
     if crc > 1 {
-        return Judged::Wrong(LineFault::Crc);
+        return Err(LineFault::Crc);
     }
     sheet_fault(sf, implicit)
 }
 
 #[tactic(auto, unfolding(crate::specs::Packet::code_fault))]
-fn code_fault(sf: u64, bw: u64, cr: u64, implicit: u64, crc: u64) -> Judged
+fn code_fault(sf: u64, bw: u64, cr: u64, implicit: u64, crc: u64) -> Result<(), LineFault>
     ensures { result ≡ code_fault sf bw cr implicit crc }
 {
-    if sf < 5 {
-        return Judged::Wrong(LineFault::SpreadingFactor);
-    }
-    if sf > 12 {
-        return Judged::Wrong(LineFault::SpreadingFactor);
+    if sf < 5 || sf > 12 {
+        return Err(LineFault::SpreadingFactor);
     }
     if bw > 9 {
-        return Judged::Wrong(LineFault::Bandwidth);
+        return Err(LineFault::Bandwidth);
     }
-    if cr < 1 {
-        return Judged::Wrong(LineFault::CodingRate);
-    }
-    if cr > 4 {
-        return Judged::Wrong(LineFault::CodingRate);
+    if cr < 1 || cr > 4 {
+        return Err(LineFault::CodingRate);
     }
     flag_fault(sf, implicit, crc)
 }
 
 // First what is out of its range, wherever it stands in the line.
 #[tactic(auto, unfolding(crate::specs::Packet::packet_fault))]
-pub fn packet_fault(p: Packet) -> Judged
+pub fn packet_fault(p: Packet) -> Result<(), LineFault>
     ensures { result ≡ packet_fault p }
 {
     if p.id > 4294967295 {
-        return Judged::Wrong(LineFault::Id);
+        return Err(LineFault::Id);
     }
     if p.preamble > 65535 {
-        return Judged::Wrong(LineFault::Preamble);
+        return Err(LineFault::Preamble);
     }
     if p.length > 255 {
-        return Judged::Wrong(LineFault::Length);
+        return Err(LineFault::Length);
     }
     code_fault(
         p.spreading_factor,

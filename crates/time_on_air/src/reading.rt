@@ -1,126 +1,91 @@
-// A depot's file read piece after piece: what was read goes in and comes out by value, and at the end it is the report on all pieces.
-ghost use Rattle.std.specs.Prelude.{◌≡◌, []};
-ghost use Rattle.time_on_air.specs.Onward.{Begins, Continues, Ends, GoesOn, Refuses, answer_of, bad_line, begun, comes_to};
+// A depot's file read piece after piece: what was read goes in and comes out by value, and at the end it is the report
+// on all pieces.
+ghost use Rattle.std.specs.Prelude.{◌≡◌, [], Err};
+ghost use Rattle.time_on_air.specs.Onward.{Begins, Continues, Ends, GoesOn, answer_of, bad_line, comes_to};
 
 use crate::fields::digits;
 use crate::totals::totals_of;
-use crate::turns::{MOST_LINES, Place, Turn, take_byte};
-use params::answers::AirtimeAnswer;
+use crate::turns::{MOST_LINES, Progress};
+use params::answers::BadLine;
 use params::line_faults::LineFault;
 
-// The answer so far, where the reading is, the sums of the lines that ended, and the numbers of the fields that ended since.
+// Where the reading is, or the first bad line.
 #[derive(Clone, Copy)]
 pub struct Reading {
-    answer: AirtimeAnswer,
-    place: Place,
-    sums: [u64; 10],
-    numbers: [u64; 8],
+    so_far: Result<Progress, BadLine>,
 }
 
 pub fn start() -> Reading
     ensures { Begins result }
 {
     Reading {
-        answer: AirtimeAnswer::Totals,
-        place: Place {
+        so_far: Ok(Progress {
             lines: 0,
+            sums: [0; 10],
+            numbers: [0; 8],
             field: 0,
             held: 0,
             skipping: false,
-        },
-        sums: [0; 10],
-        numbers: [0; 8],
+        }),
     }
 }
 
 // The line behind so many lines is bad; each line after the 50,000th is refused for that alone.
-fn bad_line(fault: LineFault, lines: u64) -> AirtimeAnswer
-    ensures { result ≡ answer_of (bad_line fault lines) }
+fn bad_line(fault: LineFault, lines: u64) -> BadLine
+    ensures { Err result ≡ answer_of (bad_line fault lines) }
 {
     if lines < MOST_LINES {
-        AirtimeAnswer::BadLine(fault, lines + 1)
+        BadLine {
+            fault,
+            line: lines + 1,
+        }
     } else {
-        AirtimeAnswer::BadLine(LineFault::Late, 50_001)
+        BadLine {
+            fault: LineFault::Late,
+            line: 50_001,
+        }
     }
 }
 
-fn refused(r: Reading, fault: LineFault, lines: u64) -> Reading
-    ensures { Refuses fault lines result }
+fn read_fields(before: Progress, piece: &[u8]) -> Result<Progress, BadLine>
+    ensures { GoesOn before piece.now result }
 {
-    let stays = r.place;
-    let sums = r.sums;
-    let numbers = r.numbers;
-    Reading {
-        answer: bad_line(fault, lines),
-        place: stays,
-        sums,
-        numbers,
-    }
-}
-
-fn read_fields(r: Reading, piece: &[u8]) -> Reading
-    ensures { GoesOn r piece.now result }
-{
-    let mut sums = r.sums;
-    let mut numbers = r.numbers;
-    let mut place = r.place;
+    let mut progress = before;
     let mut at = 0;
+    // No `for` counts this: a turn takes a run of digits and the byte behind it, whatever their number.
     while at < piece.len() {
-        let run = digits(piece, at, place.held);
-        at = run.at;
-        place.held = run.held;
-        if at == piece.len() {
+        let run = digits(piece, at, progress.held);
+        progress.held = run.held;
+        if run.at == piece.len() {
             break;
         }
-        match take_byte(&mut sums, &mut numbers, place, piece[at]) {
-            Turn::On(next) => place = next,
-            Turn::Bad(f) => return refused(r, f, place.lines),
+        let lines = progress.lines;
+        if let Err(fault) = progress.take_byte(piece[run.at]) {
+            return Err(bad_line(fault, lines));
         }
-        at += 1;
+        at = run.at + 1;
     }
-    Reading {
-        answer: AirtimeAnswer::Totals,
-        place,
-        sums,
-        numbers,
-    }
+    Ok(progress)
 }
 
 pub fn feed(r: Reading, piece: &[u8]) -> Reading
     ensures { Continues r piece.now result }
 {
-    let answer = r.answer;
-    match answer {
-        AirtimeAnswer::Totals => read_fields(r, piece),
-        AirtimeAnswer::BadLine(_, _) => r,
+    match r.so_far {
+        Ok(before) => Reading {
+            so_far: read_fields(before, piece),
+        },
+        Err(_) => r,
     }
 }
 
-// Something was read of the line that has not ended.
-fn has_begun(p: Place) -> bool
-    ensures { result ≡ begun p.skipping p.field p.held [] }
-{
-    if p.skipping {
-        return true;
-    }
-    if p.field != 0 {
-        return true;
-    }
-    p.held != 0
-}
-
-pub fn finish(r: Reading, totals: &mut [u64; 10]) -> AirtimeAnswer
+pub fn finish(r: Reading, totals: &mut [u64; 10]) -> Result<(), BadLine>
     ensures { Ends (comes_to r []) totals.old result totals.new }
 {
-    let answer = r.answer;
-    let AirtimeAnswer::Totals = answer else {
-        return answer;
-    };
-    let place = r.place;
-    if has_begun(place) {
-        return bad_line(LineFault::Open, place.lines);
+    let progress = r.so_far?;
+    if progress.has_begun() {
+        return Err(bad_line(LineFault::Open, progress.lines));
     }
-    let sums = r.sums;
-    *totals = totals_of(sums);
-    AirtimeAnswer::Totals
+    *totals = totals_of(progress.sums);
+    Ok(())
 }

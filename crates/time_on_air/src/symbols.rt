@@ -12,7 +12,7 @@ fn coded_bits(sf: u64, length: u64, implicit: u64, crc: u64) -> u64
 {
     let bits = 8 * length + 28 + 16 * crc;
     let less = 4 * sf + 20 * implicit;
-    if bits > less { bits - less } else { 0 }
+    bits.saturating_sub(less)
 }
 
 // A quotient of 32 bits is the quicker one.
@@ -25,6 +25,8 @@ fn coded_symbols(sf: u64, de: u64, cr: u64, bits: u64) -> u64
     groups as u64 * (cr + 4)
 }
 
+// `Counts` stays a clause of this, `quarter_chips` and `totals::add`: a type that holds it would be made for each line and taken
+// apart at once, which is no plainer.
 pub fn quarter_symbols(p: Packet) -> u64
     requires { Counts p }
     ensures { (result ≡ quarter_symbols p) × (result ≤ 330381) }

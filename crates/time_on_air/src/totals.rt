@@ -5,8 +5,9 @@ ghost use Rattle.time_on_air.specs.Lines.{packet_of};
 ghost use Rattle.time_on_air.specs.Report.{microseconds};
 ghost use Rattle.time_on_air.specs.Onward.{grown as grown_of, added, rounded, most_sum, summed};
 
-use crate::packet::{Judged, Packet, packet_fault};
+use crate::packet::{Packet, packet_fault};
 use crate::symbols::quarter_chips;
+use params::line_faults::LineFault;
 use sheets::bandwidth_hertz;
 
 const MOST_SUM: u64 = 70_000_000_000_000;
@@ -43,22 +44,20 @@ fn add(sums: &mut [u64; 10], p: Packet)
 }
 
 // The packet of a line's eight numbers is judged, and added to the sums where nothing is wrong with it.
-pub fn end_line(sums: &mut [u64; 10], ns: &[u64; 8]) -> Judged
+pub fn end_line(sums: &mut [u64; 10], ns: &[u64; 8]) -> Result<(), LineFault>
     ensures { (result ≡ packet_fault (packet_of ns.now)) × (sums.new ≡ summed result sums.old (packet_of ns.now)) }
 {
     let p = packet_of(ns);
-    let judged = packet_fault(p);
-    if let Judged::Fine = judged {
-        add(sums, p);
-    }
-    judged
+    packet_fault(p)?;
+    add(sums, p);
+    Ok(())
 }
 
 // No sum that was read is larger; of any other the sum below is taken, so that what follows fits.
 fn bounded(sum: u64) -> u64
     ensures { (result ≡ min sum most_sum) × (result ≤ most_sum) }
 {
-    if sum < MOST_SUM { sum } else { MOST_SUM }
+    sum.min(MOST_SUM)
 }
 
 // Rounded up.
@@ -75,16 +74,9 @@ fn total(bw: u8, sum: u64) -> u64
 pub fn totals_of(sums: [u64; 10]) -> [u64; 10]
     ensures { result ≡ rounded sums }
 {
-    [
-        total(0, sums[0]),
-        total(1, sums[1]),
-        total(2, sums[2]),
-        total(3, sums[3]),
-        total(4, sums[4]),
-        total(5, sums[5]),
-        total(6, sums[6]),
-        total(7, sums[7]),
-        total(8, sums[8]),
-        total(9, sums[9]),
-    ]
+    let mut totals = [0u64; 10];
+    for bw in 0..10 {
+        totals[bw] = total(bw as u8, sums[bw]);
+    }
+    totals
 }

@@ -1,72 +1,67 @@
 // One turn of reading: a byte that is no digit of a number ends a field, or a line with its packet.
-ghost use Rattle.std.specs.Prelude.{◌≡◌, false, ◌<◌};
-ghost use Rattle.time_on_air.specs.Onward.{goes_on, Turned, LineEnds};
+ghost use Rattle.std.specs.Prelude.{◌≡◌, false, [], ◌<◌};
+ghost use Rattle.time_on_air.specs.Onward.{begun, goes_on, Turned, LineEnds};
 
 use crate::fields::{Ended, ending};
-use crate::packet::Judged;
 use crate::totals::end_line;
 use params::line_faults::LineFault;
 
 pub const MOST_LINES: u64 = 50_000;
 
-// Where a reading is: the lines that ended, and of the line that has not which field it is in, the number that is held of it, and
-// whether a field is wrong, so that the line is skipped.
+// Where a reading is: the lines that ended and the sums of their packets; and of the line that has not the numbers of
+// the fields that ended, which field it is in, the number that is held of it, and whether a field is wrong, so that the
+// line is skipped.
 #[derive(Clone, Copy)]
-pub struct Place {
+pub struct Progress {
     pub lines: u64,
+    pub sums: [u64; 10],
+    pub numbers: [u64; 8],
     pub field: usize,
     pub held: u64,
     pub skipping: bool,
 }
 
-#[derive(Clone, Copy)]
-pub enum Turn {
-    On(Place),
-    Bad(LineFault),
-}
-
-// The eighth number of a line ends, and the line with it.
-fn line_ends(sums: &mut [u64; 10], numbers: &mut [u64; 8], p: Place) -> Turn
-    requires { 0 < p.held }
-    ensures { LineEnds sums.old numbers.old p result sums.new numbers.new }
-{
-    if p.lines >= MOST_LINES {
-        return Turn::Bad(LineFault::Late);
+impl Progress {
+    // Something was read of the line that has not ended.
+    pub fn has_begun(&self) -> bool
+        ensures { result ≡ begun self.now.skipping self.now.field self.now.held [] }
+    {
+        self.skipping || self.field != 0 || self.held != 0
     }
-    numbers[7] = p.held - 1;
-    match end_line(sums, numbers) {
-        Judged::Wrong(f) => Turn::Bad(f),
-        Judged::Fine => Turn::On(Place {
-            lines: p.lines + 1,
-            field: 0,
-            held: 0,
-            skipping: p.skipping,
-        }),
-    }
-}
 
-pub fn take_byte(sums: &mut [u64; 10], numbers: &mut [u64; 8], p: Place, b: u8) -> Turn
-    requires { goes_on p.held b ≡ false }
-    ensures { Turned sums.old numbers.old p b result sums.new numbers.new }
-{
-    let field = p.field;
-    match ending(p.skipping, field, p.held, b) {
-        Ended::Field => {
-            numbers[field] = p.held - 1;
-            Turn::On(Place {
-                lines: p.lines,
-                field: field + 1,
-                held: 0,
-                skipping: p.skipping,
-            })
+    // The eighth number of a line ends, and the line with it.
+    fn line_ends(&mut self) -> Result<(), LineFault>
+        requires { 0 < self.old.held }
+        ensures { LineEnds self.old result self.new }
+    {
+        if self.lines >= MOST_LINES {
+            return Err(LineFault::Late);
         }
-        Ended::Line => line_ends(sums, numbers, p),
-        Ended::Wrong(k) => Turn::On(Place {
-            lines: p.lines,
-            field: k,
-            held: p.held,
-            skipping: true,
-        }),
-        Ended::WrongLine(k) => Turn::Bad(LineFault::Form(k)),
+        self.numbers[7] = self.held - 1;
+        end_line(&mut self.sums, &self.numbers)?;
+        self.lines += 1;
+        self.field = 0;
+        self.held = 0;
+        Ok(())
+    }
+
+    pub fn take_byte(&mut self, b: u8) -> Result<(), LineFault>
+        requires { goes_on self.old.held b ≡ false }
+        ensures { Turned self.old b result self.new }
+    {
+        match ending(self.skipping, self.field, self.held, b) {
+            Ended::Field => {
+                self.numbers[self.field] = self.held - 1;
+                self.field += 1;
+                self.held = 0;
+            }
+            Ended::Line => return self.line_ends(),
+            Ended::Wrong(k) => {
+                self.field = k;
+                self.skipping = true;
+            }
+            Ended::WrongLine(k) => return Err(LineFault::Form(k)),
+        }
+        Ok(())
     }
 }

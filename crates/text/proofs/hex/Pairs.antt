@@ -10,7 +10,9 @@ use lib.Dec.{leb}
 use lib.ListN.{length, take, drop, get_or, set, take-append-drop}
 use lib.Seq.{drop-cons, take-suc-set, drop-set-lt, drop-drop}
 use Rattle.text.specs.declared.hex.Case.{Case}
-use Rattle.text.specs.declared.hex.Bytes.TheVariants.{Are, NotHex, Over}
+use Rattle.std.specs.Prelude.{Result, Ok, Err}
+use Rattle.text.specs.declared.hex.BytesError.{BytesError}
+use Rattle.text.specs.declared.hex.BytesError.TheVariants.{NotHex, Over}
 use Rattle.text.specs.Hex.{ten, nibble, hex_digits, bytes_of, bytes_read}
 use Rattle.text.proofs.reading.Tests.{and_true}
 
@@ -47,17 +49,14 @@ whole out out₀ bytes i e d = rw (← e, append-nil, ← d) (sym (take-append-d
 
 -- ---- what was read has room
 
-are : {m n : ℕ} → Are m ≡ Are n → m ≡ n
-are e = cc
-
-by_room : (n room : ℕ) (t : Bool) → leb n room ≡ t → {k : ℕ} → Are k ≡ cond t (Are n) Over → k ≤ room
-by_room n room true h e = let l = leb-true n room h in let k = are e in omega arith
+by_room : (n room : ℕ) (t : Bool) → leb n room ≡ t → {k : ℕ} → ◌≡◌ {A = Result ℕ BytesError} (Ok k) (cond t (Ok n) (Err Over)) → k ≤ room
+by_room n room true h {k} e = let l = leb-true n room h in let m : k ≡ n = cc in omega arith
 by_room n room false h e = absurd (let z : ◌≡◌ {A = ℕ} 0 1 = cc in omega arith)
 
-by_digits : (d : Bool) (n room : ℕ) {k : ℕ} → Are k ≡ cond d (cond (leb n room) (Are n) Over) NotHex → k ≤ room
+by_digits : (d : Bool) (n room : ℕ) {k : ℕ} → ◌≡◌ {A = Result ℕ BytesError} (Ok k) (cond d (cond (leb n room) (Ok n) (Err Over)) (Err NotHex)) → k ≤ room
 by_digits true n room e = by_room n room (leb n room) refl e
 by_digits false n room e = absurd (let z : ◌≡◌ {A = ℕ} 0 1 = cc in omega arith)
 
-pub roomy : (c : Case) (s : List ℕ) (room k : ℕ) → Are k ≡ bytes_read c s room → k ≤ room
+pub roomy : (c : Case) (s : List ℕ) (room k : ℕ) → Ok k ≡ bytes_read c s room → k ≤ room
 unfolding bytes_read
 roomy c s room k e = by_digits (hex_digits (ten c) s) (length s / 2) room e

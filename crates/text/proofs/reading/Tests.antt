@@ -1,13 +1,12 @@
--- A test is true or false; tests that are made together, a test of each element of a text, as a loop makes it, and what stands past a text's end.
-use mathlib.Core.Path.{◌≡◌, refl, sym}
+-- A test is true or false; tests that are made together, a test of each element of a text, and what stands past a text's end.
+use mathlib.Core.Path.{◌≡◌, refl, sym, ap}
 use mathlib.Core.Logic.{◌⊎◌, inl, inr}
 use mathlib.Core.List.{List, [], ◌∷◌}
 use mathlib.Core.Bool.{Bool, true, false, ◌&&◌, true≢false}
-use Prim.Native.Nat.{ℕ, zero, suc, ◌+◌, ◌≤◌, ◌<◌}
-use native.Mathlib.Numerals.{add-one}
+use Prim.Native.Nat.{ℕ, zero, suc, ◌≤◌}
 use native.Mathlib.Omega.{arith}
-use lib.ListN.{length, drop, get_or}
-use lib.Seq.{drop-cons}
+use lib.ListN.{length, get_or}
+use Rattle.std.specs.List.{list_all}
 use Rattle.text.specs.Words.{all}
 
 pub decided : (t : Bool) → (t ≡ true) ⊎ (t ≡ false)
@@ -19,12 +18,10 @@ pub and_true : (p q : Bool) → (p && q) ≡ true → (p ≡ true) × (q ≡ tru
 and_true true q e = (refl, e)
 and_true false q e = absurd (true≢false (sym e))
 
-module _ (p : ℕ → Bool) (s : List ℕ) (i : ℕ) (h : i < length s) where
-  pub passes : p (get_or s i 0) ≡ true → all p (drop i s) ≡ all p (drop (i + 1) s)
-  passes e = rw (add-one i, drop-cons s i 0, e)
-
-  pub fails : p (get_or s i 0) ≡ false → all p (drop i s) ≡ false
-  fails e = rw (drop-cons s i 0, e)
+-- what `all` of an iterator answers
+pub all_passes : (p : ℕ → Bool) (s : List ℕ) → list_all p s ≡ all p s
+all_passes p [] = refl
+all_passes p (x ∷ s) = ap (λ (t : Bool). p x && t) (all_passes p s)
 
 -- past the end there is 0
 pub past : (s : List ℕ) (i : ℕ) → length s ≤ i → get_or s i 0 ≡ 0

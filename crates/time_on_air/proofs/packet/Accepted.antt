@@ -1,5 +1,6 @@
 -- What is known of a packet that nothing refuses.
 -- Assumes nothing.
+use Rattle.std.specs.Prelude.{Ok}
 use mathlib.Core.Path.{◌≡◌, refl}
 use mathlib.Core.Bool.{Bool, true, false}
 use Prim.Native.Nat.{ℕ, ◌≤◌}
@@ -8,15 +9,14 @@ use borrow.Author.Tests.{leb-true, eqb-false, not-true}
 use lib.Dec.{eqb}
 use Rattle.params.specs.declared.line_faults.LineFault.{LineFault}
 use Rattle.time_on_air.specs.declared.packet.Packet.{Packet}
-use Rattle.time_on_air.specs.declared.packet.Judged.{Judged}
-use Rattle.time_on_air.specs.declared.packet.Judged.TheVariants.{Fine}
+use Rattle.time_on_air.specs.Packet.{Judged}
 use Rattle.time_on_air.specs.Packet.{unless, sheet_fault, flag_fault, code_fault, packet_fault, Counts}
 
-pub passed : (t : Bool) (f : LineFault) (next : Judged) → unless t f next ≡ Fine → (t ≡ true) × (next ≡ Fine)
+pub passed : (t : Bool) (f : LineFault) (next : Judged) → unless t f next ≡ Ok tt → (t ≡ true) × (next ≡ Ok tt)
 passed true f next h = (refl, h)
 passed false f next h = (cc, cc)
 
-module _ (p : Packet) (h : packet_fault p ≡ Fine) where
+module _ (p : Packet) (h : packet_fault p ≡ Ok tt) where
   abbrev sf : ℕ
   sf = p.spreading_factor
 

@@ -11,5 +11,5 @@ returns-clause-appended c =
     let r = row c.args.first c.args.bytes.now in
     let h : c.row_bytes-held.result ≡ summed r = c.row_bytes-held.ensures in
     let x : c.sum_of.result ≡ r.sum = rw (h, c.requires.0) at c.sum_of.ensures in
-    let all = then c.put-at.ensures (then c.put_hex-at.ensures.appended (then c.put_hex-at-2.ensures.appended c.put.ensures)) in
+    let all = then c.put.ensures (then c.put_hex.ensures.appended (then c.put_hex-2.ensures.appended c.put-2.ensures)) in
     same (line_parts r) (rw (h, x) at all)

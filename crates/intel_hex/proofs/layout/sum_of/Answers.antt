@@ -1,11 +1,12 @@
--- `intel_hex::layout::sum_of` meets its contract: what was added and what is left make up the whole.
-use Rattle.std.proofs.Common.{◌≡◌, ◌+◌, drop_of_length-le, arith}
-use Rattle.intel_hex.specs.Record.{total as total_of}
-use Rattle.intel_hex.proofs.Sums.{completes}
+-- `intel_hex::layout::sum_of` meets its contract: what makes the sum of all bytes a multiple of 256.
+use Rattle.std.proofs.Common.{refl, arith}
+use Rattle.intel_hex.proofs.Sums.{added, completes_all}
 use Rattle.intel_hex.proofs.layout.sum_of.Goals as goal
+
+pub loop-b-preserved : goal.loop-b-preserved
+loop-b-preserved c =
+    added c.args.bytes.now c.loop-b.b-index c.loop-b.total _ c.loop-b-test.true refl c.loop-b.invariant
 
 pub returns : goal.returns
 returns c =
-    let bs = c.args.bytes.now in
-    let t : c.loop-i.total + 0 ≡ total_of bs = rw (drop_of_length-le bs c.loop-i-test.false) at c.loop-i.invariant.1 in
-    completes bs c.loop-i.total (omega arith)
+    completes_all c.args.bytes.now c.loop-b.b-index c.loop-b.total _ c.loop-b-test.false c.loop-b.invariant (omega (arith, c.wrapping_neg.ensures)) (omega arith)

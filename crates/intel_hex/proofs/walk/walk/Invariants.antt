@@ -1,10 +1,13 @@
 -- What is left behind the records that are held gives the whole.
-use Rattle.std.proofs.Common.{◌*◌, ◌-◌, ◌≤◌, length}
+use Rattle.std.proofs.Common.{◌*◌, ◌+◌, ◌≤◌, length}
 use Rattle.intel_hex.proofs.Walked.{Reached}
 use Rattle.intel_hex.proofs.walk.walk.Given as goal
 
-abbrev pub invariant-loop-at : goal.invariant-loop-at
-invariant-loop-at l = (l.at ≤ length l.text) × (2 * l.passed ≤ l.at) × Reached l.text l.at l.passed l.bytes l.set
+abbrev pub invariant-loop-rest : goal.invariant-loop-rest
+invariant-loop-rest l = record {
+  slow : 2 * l.line + length l.rest ≤ length l.text + 2;
+  reached : Reached l.text l.rest l.line l.held.places;
+}
 
-abbrev pub decreases-loop-at : goal.decreases-loop-at
-decreases-loop-at l = length l.text - l.at
+abbrev pub decreases-loop-rest : goal.decreases-loop-rest
+decreases-loop-rest l = length l.rest

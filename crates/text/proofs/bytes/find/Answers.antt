@@ -1,20 +1,13 @@
--- `text::bytes::find` meets its contract: it goes on as long as the byte does not stand there.
-use Rattle.std.proofs.Common.{arith}
-use Rattle.text.proofs.bytes.Found.{here, not_here, over}
+-- `text::bytes::find` meets its contract: what `position` answers.
+use Rattle.std.proofs.Common.{eqb, rules, tests}
+use Rattle.std.proofs.lemmas.Iterator.{YieldsList-from_slice}
+use Rattle.std.proofs.lemmas.Iterator.Search.{position_from_yields_List}
+use Rattle.text.proofs.bytes.Position.{found}
 use Rattle.text.proofs.bytes.find.Goals as goal
 
-pub returns-then-s-i-clause-first : goal.returns-then-s-i-clause-first
-returns-then-s-i-clause-first c =
-    let a = c.args in
-    omega (arith, here a.b a.s.now c.loop-i.i a.to c.loop-i-test.true c.requires.to_in c.if-s-i.true)
-
-pub loop-i-preserved : goal.loop-i-preserved
-loop-i-preserved c =
-    let a = c.args in
-    let e = not_here a.b a.s.now c.loop-i.i a.to c.loop-i-test.true c.requires.to_in c.if-s-i.false in
-    (omega arith, omega arith, omega arith)
-
-pub returns-clause-first : goal.returns-clause-first
-returns-clause-first c =
-    let a = c.args in
-    omega (arith, over a.b a.s.now c.loop-i.i a.to c.loop-i-test.false c.requires.to_in)
+pub returns : goal.returns
+returns c =
+    let b = c.args.b in
+    let s = c.args.s.now in
+    let p = position_from_yields_List (λ x. eqb x b) _ _ _ c.position.ensures.ran (YieldsList-from_slice s cc) (λ x t q k. search (rules, tests)) in
+    rw p (found b s)

@@ -1,24 +1,18 @@
--- `text::read_decimals::all_digits` meets its contract: the test of what is left is the test of the whole.
-use Rattle.std.proofs.Common.{length, sym, ◌∙◌, arith}
-use Rattle.std.proofs.Math.ListN.{drop_of_length-le}
-use borrow.Author.Tests.{le-ltb, lt-ltb}
+-- `text::read_decimals::all_digits` meets its contract: what `all` of an iterator answers.
+use Rattle.std.proofs.Common.{length, ◌∙◌, rules, tests}
+use borrow.Author.Tests.{lt-ltb, le-ltb}
+use Rattle.std.proofs.lemmas.Iterator.{YieldsList-from_slice}
+use Rattle.std.proofs.lemmas.Iterator.Search.{all_from_yields_List}
 use Rattle.text.specs.Decimal.{is_digit, digits}
-use Rattle.text.proofs.reading.Tests.{fails}
+use Rattle.text.proofs.reading.Tests.{all_passes}
 use Rattle.text.proofs.read_decimals.all_digits.Goals as goal
 
-pub returns-then-s-eq0 : goal.returns-then-s-eq0
+pub returns-then-s-gt0 : goal.returns-then-s-gt0
 unfolding digits
-returns-then-s-eq0 c = rw (le-ltb 0 (length c.args.s.now) (omega arith))
+returns-then-s-gt0 c =
+    rw (lt-ltb 0 (length c.args.s.now) c.if-s-gt0.true)
+    (all_from_yields_List is_digit _ _ _ c.all.ensures.ran (YieldsList-from_slice c.args.s.now cc) (λ x t q k. search (rules, tests)) ∙ all_passes is_digit c.args.s.now)
 
-pub returns-else-is_digit : goal.returns-else-is_digit
+pub returns-else-s-gt0 : goal.returns-else-s-gt0
 unfolding digits
-returns-else-is_digit c =
-    let s = c.args.s.now in
-    let f = fails is_digit s c.loop-i.i c.loop-i-test.true (sym c.is_digit.ensures ∙ c.if-is_digit.false) in
-    rw (lt-ltb 0 (length s) (omega arith)) (sym f ∙ c.loop-i.invariant.1)
-
-pub returns : goal.returns
-unfolding digits
-returns c =
-    let s = c.args.s.now in
-    rw (lt-ltb 0 (length s) (omega arith)) (rw (drop_of_length-le s c.loop-i-test.false) at c.loop-i.invariant.1)
+returns-else-s-gt0 c = rw (le-ltb 0 (length c.args.s.now) c.if-s-gt0.false)

@@ -8,17 +8,12 @@ use Rattle.text.proofs.read_decimals.value.Goals as goal
 
 pub returns-then-n-most : goal.returns-then-n-most
 returns-then-n-most c =
-    let l = c.loop-i in
-    too_much c.args.most c.args.s.now l.i l.n c.loop-i-test.true l.invariant.2 (omega arith)
-
-pub returns-then-d-most : goal.returns-then-d-most
-returns-then-d-most c =
-    let l = c.loop-i in
-    too_much c.args.most c.args.s.now l.i l.n c.loop-i-test.true l.invariant.2 (omega arith)
+    let l = c.loop-b in
+    too_much c.args.most c.args.s.now l.b-index l.n c.loop-b-test.true l.invariant.1 (omega arith)
 
 pub returns : goal.returns
 unfolding valued
 returns c =
-    let l = c.loop-i in
-    let e = rw (drop_of_length-le c.args.s.now c.loop-i-test.false) at l.invariant.2 in
-    rw (sym e, le-leb l.n c.args.most l.invariant.1)
+    let l = c.loop-b in
+    let e = rw (drop_of_length-le c.args.s.now c.loop-b-test.false) at l.invariant.1 in
+    rw (sym e, le-leb l.n c.args.most l.invariant.0)

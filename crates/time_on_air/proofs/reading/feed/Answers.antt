@@ -2,10 +2,10 @@
 use Rattle.time_on_air.specs.Onward.{comes_to}
 use Rattle.time_on_air.proofs.reading.feed.Goals as goal
 
-pub returns-in-Totals : goal.returns-in-Totals
+pub returns-in-Ok : goal.returns-in-Ok
 unfolding comes_to
-returns-in-Totals c = rw c.in-Totals.is c.read_fields.ensures
+returns-in-Ok c = λ t. rw c.in-Ok.is (c.read_fields.ensures t)
 
-pub returns-in-BadLine : goal.returns-in-BadLine
+pub returns-in-Err : goal.returns-in-Err
 unfolding comes_to
-returns-in-BadLine c = λ t. rw c.in-BadLine.is
+returns-in-Err c = λ t. rw c.in-Err.is

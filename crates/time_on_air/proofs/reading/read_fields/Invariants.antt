@@ -9,7 +9,7 @@ abbrev pub invariant-loop-at : goal.invariant-loop-at
 invariant-loop-at l =
     record {
       within : l.at ≤ length l.piece;
-      left : (t : List ℕ) → from l.place l.sums l.numbers (parts lf (drop l.at l.piece ++ t)) ≡ goes_to l.r (l.piece ++ t);
+      left : (t : List ℕ) → from l.progress (parts lf (drop l.at l.piece ++ t)) ≡ goes_to l.fn.before (l.piece ++ t);
     }
 
 abbrev pub decreases-loop-at : goal.decreases-loop-at

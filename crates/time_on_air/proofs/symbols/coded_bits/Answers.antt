@@ -4,14 +4,8 @@ use Rattle.time_on_air.specs.Symbols.{coded_bits}
 use Rattle.time_on_air.proofs.symbols.Bounds.{difference}
 use Rattle.time_on_air.proofs.symbols.coded_bits.Goals as goal
 
-pub returns-then-bits-less : goal.returns-then-bits-less
+pub returns : goal.returns
 unfolding coded_bits
-returns-then-bits-less c =
+returns c =
     let a = c.args in
-    rw (difference (8 * a.length + 28 + 16 * a.crc) (4 * a.sf + 20 * a.implicit)) (omega arith)
-
-pub returns-else-bits-less : goal.returns-else-bits-less
-unfolding coded_bits
-returns-else-bits-less c =
-    let a = c.args in
-    rw (difference (8 * a.length + 28 + 16 * a.crc) (4 * a.sf + 20 * a.implicit)) (omega arith)
+    rw (difference (8 * a.length + 28 + 16 * a.crc) (4 * a.sf + 20 * a.implicit)) (omega (arith, c.saturating_sub.ensures), omega (arith, c.saturating_sub.ensures))

@@ -4,4 +4,4 @@ use Rattle.time_on_air.proofs.packet.Accepted.{accepted}
 use Rattle.time_on_air.proofs.totals.end_line.Goals as goal
 
 pub add-requires : goal.add-requires
-add-requires c = accepted c.packet_of-p.result (sym c.packet_fault-judged.ensures ∙ c.in-Fine.is)
+add-requires c = accepted c.packet_of-p.result (sym c.packet_fault.ensures ∙ c.in_ok-packet_fault.was)

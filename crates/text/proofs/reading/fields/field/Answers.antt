@@ -1,7 +1,9 @@
--- `text::reading::fields::field` meets its contract: a field ends where the next separator stands.
-use Rattle.std.proofs.Common.{◌∙◌}
-use Rattle.text.proofs.reading.Parted.{to_end}
+-- `text::reading::fields::field` meets its contract: one field less is left.
+use Rattle.std.proofs.Common.{◌∙◌, sym}
+use Rattle.text.proofs.reading.Parted.{next}
 use Rattle.text.proofs.reading.fields.field.Goals as goal
 
-pub returns : goal.returns
-returns c = to_end c.args.sep c.args.s.now c.start-from.result c.find-end.result c.find-end.ensures.first ∙ c.start-from.ensures.1
+pub loop-preserved : goal.loop-preserved
+loop-preserved c =
+    let l = c.loop in
+    rw c.behind-rest.ensures (sym (next c.args.sep c.args.k l.counter l.rest.now c.loop-test.true) ∙ l.invariant)
