@@ -11,5 +11,5 @@ pub extern "C" fn sx127x_airtime(text: &[u8], results: &mut [u64]) -> i32
 {
     let mut totals = [0u64; 10];
     let answer = time_on_air::airtime(text, &mut totals);
-    airtime(results, answer, &totals) as i32
+    airtime(results, answer, &totals)
 }

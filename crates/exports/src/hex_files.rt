@@ -4,7 +4,8 @@ ghost use Rattle.params.specs.Answers.{tells_write_hex, tells_read_hex};
 ghost use Rattle.intel_hex.specs.Calls.{write_answer, write_leaves, read_answer, read_leaves};
 ghost use Rattle.results.specs.Results.{Tells};
 
-use results::answers::{read_hex, write_hex};
+use params::mod_params::RadioError;
+use results::answers::told;
 
 // Value: the bytes of the text.
 #[unsafe(no_mangle)]
@@ -12,7 +13,7 @@ pub extern "C" fn sx127x_write_hex(image: &[u8], text: &mut [u8], results: &mut 
     ensures { Tells (tells_write_hex (write_answer image.now (length text.old))) 0 results.old result results.new × (text.new ≡ write_leaves image.now text.old) }
 {
     let answer = intel_hex::write_hex(image, text);
-    write_hex(results, answer) as i32
+    told(results, 0, answer)
 }
 
 // No values: which record is bad is not told.
@@ -21,5 +22,5 @@ pub extern "C" fn sx127x_read_hex(text: &[u8], image: &mut [u8], results: &mut [
     ensures { Tells (tells_read_hex (read_answer text.now (length image.old))) 0 results.old result results.new × (image.new ≡ read_leaves text.now image.old) }
 {
     let answer = intel_hex::read_hex(text, image);
-    read_hex(results, answer) as i32
+    told(results, 0, answer.map_err(RadioError::from))
 }

@@ -3,7 +3,8 @@ ghost use Rattle.std.specs.Prelude.{[]};
 ghost use Rattle.operations.specs.Interrupts.{set_irq, process_irq};
 ghost use Rattle.results.specs.Exports.{Exported};
 
-use results::answers::{done, irq};
+use bus::Radio;
+use results::answers::told;
 
 // Mode 6 is no mode; `rx_mode` counts where the mode is Receive.
 #[unsafe(no_mangle)]
@@ -17,8 +18,9 @@ pub extern "C" fn sx127x_set_irq_params(
 ) -> i32
     ensures { Exported (set_irq mode rx_mode image.old log.old used) results.old result image.new [] log.new [] results.new }
 {
-    let answer = sx127x::set_irq_params(image, log, used, mode, rx_mode);
-    done(results, answer) as i32
+    let mut radio = Radio { image, log, used };
+    let answer = sx127x::set_irq_params(&mut radio, mode, rx_mode);
+    told(results, radio.used, answer)
 }
 
 // Values: 0 nothing, 1 preamble received, 2 done; after 2 in channel activity detection whether there was activity.
@@ -34,6 +36,7 @@ pub extern "C" fn sx127x_process_irq_event(
 ) -> i32
     ensures { Exported (process_irq mode rx_mode clear image.old log.old used) results.old result image.new [] log.new [] results.new }
 {
-    let answer = sx127x::process_irq_event(image, log, used, mode, rx_mode, clear);
-    irq(results, answer) as i32
+    let mut radio = Radio { image, log, used };
+    let answer = sx127x::process_irq_event(&mut radio, mode, rx_mode, clear);
+    told(results, radio.used, answer)
 }

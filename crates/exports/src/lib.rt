@@ -1,4 +1,5 @@
 // The driver for C and Rust: each public call over numbers and lent slices, its answer told by number and results.
+// Each call is written out: a function that takes it as a closure has a contract longer than the two lines it spares.
 #![tactic(auto)]
 
 pub mod airtime;

@@ -7,10 +7,12 @@ ghost use Rattle.results.specs.Boards.{board_of};
 ghost use Rattle.results.specs.Exports.{Exported};
 ghost use Rattle.exports.specs.Records.{link_of};
 
+use bus::Radio;
+use params::board::Board;
 use params::mod_params::Link;
 use params::units::Hertz;
-use results::answers::{done, link};
-use results::board_flags::board_of;
+use results::answers::told;
+use results::board_flags::BoardFlags;
 
 // A link of ten numbers.
 #[unsafe(no_mangle)]
@@ -33,22 +35,22 @@ pub extern "C" fn sx127x_program(
 ) -> i32
     ensures { Exported (program_link (board_of board) (link_of public_network spreading_factor bandwidth coding_rate frequency_in_hz preamble_length implicit_header crc_on iq_inverted power) image.old log.old used) results.old result image.new [] log.new [] results.new }
 {
-    let board = board_of(board);
-    let frequency = Hertz(frequency_in_hz);
+    let board = Board::from(BoardFlags(board));
     let link = Link {
         public_network,
         spreading_factor,
         bandwidth,
         coding_rate,
-        frequency,
+        frequency: Hertz(frequency_in_hz),
         preamble_length,
         implicit_header,
         crc_on,
         iq_inverted,
         power,
     };
-    let answer = link::program(image, log, used, board, link);
-    done(results, answer) as i32
+    let mut radio = Radio { image, log, used };
+    let answer = link::program(&mut radio, board, link);
+    told(results, radio.used, answer)
 }
 
 // Values: public network, spreading factor, bandwidth, coding rate, hertz, preamble, implicit header, CRC, IQ, power.
@@ -56,7 +58,7 @@ pub extern "C" fn sx127x_program(
 pub extern "C" fn sx127x_read_link(image: &[u8], board: u8, results: &mut [u64]) -> i32
     ensures { Tells (read_link (board_of board) image.now) 0 results.old result results.new }
 {
-    let board = board_of(board);
+    let board = Board::from(BoardFlags(board));
     let answer = link::read_link(image, board);
-    link(results, answer) as i32
+    told(results, 0, answer)
 }

@@ -4,8 +4,10 @@ ghost use Rattle.operations.specs.Modes.{reset, set_standby, set_sleep, do_tx, d
 ghost use Rattle.results.specs.Boards.{board_of};
 ghost use Rattle.results.specs.Exports.{Exported};
 
-use results::answers::done;
-use results::board_flags::board_of;
+use bus::Radio;
+use params::board::Board;
+use results::answers::told;
+use results::board_flags::BoardFlags;
 
 // The reset pin, then sleep.
 #[unsafe(no_mangle)]
@@ -17,8 +19,9 @@ pub extern "C" fn sx127x_reset(
 ) -> i32
     ensures { Exported (reset image.old log.old used) results.old result image.new [] log.new [] results.new }
 {
-    let answer = sx127x::reset(image, log, used);
-    done(results, answer) as i32
+    let mut radio = Radio { image, log, used };
+    let answer = sx127x::reset(&mut radio);
+    told(results, radio.used, answer)
 }
 
 // Standby, the antenna off.
@@ -31,8 +34,9 @@ pub extern "C" fn sx127x_set_standby(
 ) -> i32
     ensures { Exported (set_standby image.old log.old used) results.old result image.new [] log.new [] results.new }
 {
-    let answer = sx127x::set_standby(image, log, used);
-    done(results, answer) as i32
+    let mut radio = Radio { image, log, used };
+    let answer = sx127x::set_standby(&mut radio);
+    told(results, radio.used, answer)
 }
 
 // Sleep, the antenna off.
@@ -45,8 +49,9 @@ pub extern "C" fn sx127x_set_sleep(
 ) -> i32
     ensures { Exported (set_sleep image.old log.old used) results.old result image.new [] log.new [] results.new }
 {
-    let answer = sx127x::set_sleep(image, log, used);
-    done(results, answer) as i32
+    let mut radio = Radio { image, log, used };
+    let answer = sx127x::set_sleep(&mut radio);
+    told(results, radio.used, answer)
 }
 
 // Sends what the FIFO holds.
@@ -59,8 +64,9 @@ pub extern "C" fn sx127x_do_tx(
 ) -> i32
     ensures { Exported (do_tx image.old log.old used) results.old result image.new [] log.new [] results.new }
 {
-    let answer = sx127x::do_tx(image, log, used);
-    done(results, answer) as i32
+    let mut radio = Radio { image, log, used };
+    let answer = sx127x::do_tx(&mut radio);
+    told(results, radio.used, answer)
 }
 
 // `n` symbols are waited for a preamble, where `rx_mode` is 0.
@@ -76,9 +82,10 @@ pub extern "C" fn sx127x_do_rx(
 ) -> i32
     ensures { Exported (do_rx (board_of board).rx_boost rx_mode n image.old log.old used) results.old result image.new [] log.new [] results.new }
 {
-    let board = board_of(board);
-    let answer = sx127x::do_rx(image, log, used, board.rx_boost, rx_mode, n);
-    done(results, answer) as i32
+    let board = Board::from(BoardFlags(board));
+    let mut radio = Radio { image, log, used };
+    let answer = sx127x::do_rx(&mut radio, board.rx_boost, rx_mode, n);
+    told(results, radio.used, answer)
 }
 
 // Channel activity detection.
@@ -92,9 +99,10 @@ pub extern "C" fn sx127x_do_cad(
 ) -> i32
     ensures { Exported (do_cad (board_of board).rx_boost image.old log.old used) results.old result image.new [] log.new [] results.new }
 {
-    let board = board_of(board);
-    let answer = sx127x::do_cad(image, log, used, board.rx_boost);
-    done(results, answer) as i32
+    let board = Board::from(BoardFlags(board));
+    let mut radio = Radio { image, log, used };
+    let answer = sx127x::do_cad(&mut radio, board.rx_boost);
+    told(results, radio.used, answer)
 }
 
 // The carrier test, on the SX1276 alone.
@@ -108,8 +116,8 @@ pub extern "C" fn sx127x_set_tx_continuous_wave_mode(
 ) -> i32
     ensures { Exported (set_carrier (board_of board).variant image.old log.old used) results.old result image.new [] log.new [] results.new }
 {
-    let board = board_of(board);
-    let variant = board.variant;
-    let answer = sx127x::set_tx_continuous_wave_mode(image, log, used, variant);
-    done(results, answer) as i32
+    let board = Board::from(BoardFlags(board));
+    let mut radio = Radio { image, log, used };
+    let answer = sx127x::set_tx_continuous_wave_mode(&mut radio, board.variant);
+    told(results, radio.used, answer)
 }

@@ -4,8 +4,11 @@ ghost use Rattle.operations.specs.Packets.{set_payload, get_payload, get_status}
 ghost use Rattle.results.specs.Boards.{board_of};
 ghost use Rattle.results.specs.Exports.{Exported};
 
-use results::answers::{done, payload, status};
-use results::board_flags::board_of;
+use bus::Radio;
+use bus::log::Log;
+use params::board::Board;
+use results::answers::told;
+use results::board_flags::BoardFlags;
 
 // A payload into the FIFO.
 #[unsafe(no_mangle)]
@@ -19,8 +22,9 @@ pub extern "C" fn sx127x_set_payload(
 ) -> i32
     ensures { Exported (set_payload payload.now image.old fifo.old log.old used) results.old result image.new fifo.new log.new payload.now results.new }
 {
-    let answer = sx127x::set_payload(image, fifo, log, used, payload);
-    done(results, answer) as i32
+    let mut radio = Radio { image, log, used };
+    let answer = sx127x::set_payload(&mut radio, fifo, payload);
+    told(results, radio.used, answer)
 }
 
 // The bytes received. Value: how many.
@@ -35,8 +39,9 @@ pub extern "C" fn sx127x_get_rx_payload(
 ) -> i32
     ensures { Exported (get_payload image.old fifo.now log.old buffer.old used) results.old result image.new fifo.now log.new buffer.new results.new }
 {
-    let answer = sx127x::get_rx_payload(image, fifo, log, used, buffer);
-    payload(results, answer) as i32
+    let mut radio = Radio { image, log, used };
+    let answer = sx127x::get_rx_payload(&mut radio, fifo, buffer);
+    told(results, radio.used, answer)
 }
 
 // Values: RSSI in dBm, SNR in dB.
@@ -50,8 +55,8 @@ pub extern "C" fn sx127x_get_rx_packet_status(
 ) -> i32
     ensures { Exported (get_status (board_of board).variant image.now log.old used) results.old result image.now [] log.new [] results.new }
 {
-    let board = board_of(board);
-    let variant = board.variant;
-    let answer = sx127x::get_rx_packet_status(image, log, used, variant);
-    status(results, answer) as i32
+    let board = Board::from(BoardFlags(board));
+    let mut log = Log { bytes: log, used };
+    let answer = sx127x::get_rx_packet_status(image, &mut log, board.variant);
+    told(results, log.used, answer)
 }

@@ -6,10 +6,12 @@ ghost use Rattle.results.specs.Boards.{board_of};
 ghost use Rattle.results.specs.Exports.{Exported};
 ghost use Rattle.exports.specs.Records.{modulation_of, packet_of};
 
+use bus::Radio;
+use params::board::Board;
 use params::mod_params::{ModulationParams, PacketParams};
 use params::units::Hertz;
-use results::answers::{done, modulation, packet};
-use results::board_flags::board_of;
+use results::answers::told;
+use results::board_flags::BoardFlags;
 
 // Values: spreading factor, bandwidth, coding rate, optimize, hertz.
 #[unsafe(no_mangle)]
@@ -23,16 +25,15 @@ pub extern "C" fn sx127x_create_modulation_params(
 ) -> i32
     ensures { Tells (create_modulation (board_of board).variant spreading_factor bandwidth coding_rate frequency_in_hz) 0 results.old result results.new }
 {
-    let board = board_of(board);
-    let variant = board.variant;
+    let board = Board::from(BoardFlags(board));
     let answer = sx127x::create_modulation_params(
-        variant,
+        board.variant,
         spreading_factor,
         bandwidth,
         coding_rate,
         frequency_in_hz,
     );
-    modulation(results, answer) as i32
+    told(results, 0, answer)
 }
 
 // Values: preamble, implicit header, payload length, CRC, IQ.
@@ -56,7 +57,7 @@ pub extern "C" fn sx127x_create_packet_params(
         iq_inverted,
         spreading_factor,
     );
-    packet(results, answer) as i32
+    told(results, 0, answer)
 }
 
 // The call does not look at a frequency: 0 stands for one.
@@ -74,18 +75,17 @@ pub extern "C" fn sx127x_set_modulation_params(
 ) -> i32
     ensures { Exported (set_modulation (board_of board).variant (modulation_of spreading_factor bandwidth coding_rate low_data_rate_optimize) image.old log.old used) results.old result image.new [] log.new [] results.new }
 {
-    let board = board_of(board);
-    let variant = board.variant;
-    let frequency = Hertz(0);
+    let board = Board::from(BoardFlags(board));
     let params = ModulationParams {
         spreading_factor,
         bandwidth,
         coding_rate,
         low_data_rate_optimize,
-        frequency,
+        frequency: Hertz(0),
     };
-    let answer = sx127x::set_modulation_params(image, log, used, variant, params);
-    done(results, answer) as i32
+    let mut radio = Radio { image, log, used };
+    let answer = sx127x::set_modulation_params(&mut radio, board.variant, params);
+    told(results, radio.used, answer)
 }
 
 // `payload_length` reaches no register here.
@@ -104,8 +104,7 @@ pub extern "C" fn sx127x_set_packet_params(
 ) -> i32
     ensures { Exported (set_packet (board_of board).variant (packet_of preamble_length implicit_header payload_length crc_on iq_inverted) image.old log.old used) results.old result image.new [] log.new [] results.new }
 {
-    let board = board_of(board);
-    let variant = board.variant;
+    let board = Board::from(BoardFlags(board));
     let params = PacketParams {
         preamble_length,
         implicit_header,
@@ -113,6 +112,7 @@ pub extern "C" fn sx127x_set_packet_params(
         crc_on,
         iq_inverted,
     };
-    let answer = sx127x::set_packet_params(image, log, used, variant, params);
-    done(results, answer) as i32
+    let mut radio = Radio { image, log, used };
+    let answer = sx127x::set_packet_params(&mut radio, board.variant, params);
+    told(results, radio.used, answer)
 }

@@ -5,8 +5,10 @@ ghost use Rattle.operations.specs.Power.{set_power};
 ghost use Rattle.results.specs.Boards.{board_of};
 ghost use Rattle.results.specs.Exports.{Exported};
 
-use results::answers::done;
-use results::board_flags::board_of;
+use bus::Radio;
+use params::board::Board;
+use results::answers::told;
+use results::board_flags::BoardFlags;
 
 // `public_network` 1 or 0.
 #[unsafe(no_mangle)]
@@ -20,9 +22,10 @@ pub extern "C" fn sx127x_init_lora(
 ) -> i32
     ensures { Exported (init_lora (board_of board) public_network image.old log.old used) results.old result image.new [] log.new [] results.new }
 {
-    let board = board_of(board);
-    let answer = sx127x::init_lora(image, log, used, board, public_network);
-    done(results, answer) as i32
+    let board = Board::from(BoardFlags(board));
+    let mut radio = Radio { image, log, used };
+    let answer = sx127x::init_lora(&mut radio, board, public_network);
+    told(results, radio.used, answer)
 }
 
 // Both bases become 0, whatever was asked: the Rust's way.
@@ -37,14 +40,9 @@ pub extern "C" fn sx127x_set_tx_rx_buffer_base_address(
 ) -> i32
     ensures { Exported (set_bases tx_base_addr rx_base_addr image.old log.old used) results.old result image.new [] log.new [] results.new }
 {
-    let answer = sx127x::set_tx_rx_buffer_base_address(
-        image,
-        log,
-        used,
-        tx_base_addr,
-        rx_base_addr,
-    );
-    done(results, answer) as i32
+    let mut radio = Radio { image, log, used };
+    let answer = sx127x::set_tx_rx_buffer_base_address(&mut radio, tx_base_addr, rx_base_addr);
+    told(results, radio.used, answer)
 }
 
 // A frequency in hertz.
@@ -58,8 +56,9 @@ pub extern "C" fn sx127x_set_channel(
 ) -> i32
     ensures { Exported (set_channel frequency_in_hz image.old log.old used) results.old result image.new [] log.new [] results.new }
 {
-    let answer = sx127x::set_channel(image, log, used, frequency_in_hz);
-    done(results, answer) as i32
+    let mut radio = Radio { image, log, used };
+    let answer = sx127x::set_channel(&mut radio, frequency_in_hz);
+    told(results, radio.used, answer)
 }
 
 // A power in dBm; the ramp is shorter where `is_tx_prep` is 1.
@@ -75,7 +74,8 @@ pub extern "C" fn sx127x_set_tx_power_and_ramp_time(
 ) -> i32
     ensures { Exported (set_power (board_of board) power is_tx_prep image.old log.old used) results.old result image.new [] log.new [] results.new }
 {
-    let board = board_of(board);
-    let answer = sx127x::set_tx_power_and_ramp_time(image, log, used, board, power, is_tx_prep);
-    done(results, answer) as i32
+    let board = Board::from(BoardFlags(board));
+    let mut radio = Radio { image, log, used };
+    let answer = sx127x::set_tx_power_and_ramp_time(&mut radio, board, power, is_tx_prep);
+    told(results, radio.used, answer)
 }

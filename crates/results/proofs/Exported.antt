@@ -1,30 +1,13 @@
--- What a call met, told, is what it exports; and what is told and an outcome allow one result only.
+-- What is told and an outcome allow one result only.
 -- Assumes nothing.
 use mathlib.Core.Path.{◌≡◌, sym, ◌∙◌}
 use mathlib.Core.List.{List}
-use Prim.Native.Nat.{ℕ, ◌<◌}
-use native.Mathlib.Omega.{arith}
-use lib.IntN.{ℤ, pos}
-use mir.Syntax.{w32}
-use mir.Val.{to_z}
-use mir.ValLaws.{to_z_pos}
+use Prim.Native.Nat.{ℕ}
+use lib.IntN.{ℤ}
 use Rattle.params.specs.Errors.{Told}
-use Rattle.bus.specs.Call.{Outcome, Meets}
+use Rattle.bus.specs.Call.{Outcome}
 use Rattle.results.specs.Results.{Tells}
 use Rattle.results.specs.Exports.{Exported}
-
-module _ {t : Told} {used n : ℕ} {before results : List ℕ} where
-  -- a byte is the same number as an i32
-  pub told : Tells t used before (pos n) results → n < 256 → Tells t used before (to_z w32 n) results
-  told s h = rw (to_z_pos w32 n (omega arith)) s
-
-module _ {o : Outcome} {t : Told} {used n : ℕ} {before im fifo log buffer results : List ℕ} where
-  pub exported : Meets o t used im fifo log buffer → Tells t used before (pos n) results → n < 256
-      → Exported o before (to_z w32 n) im fifo log buffer results
-  exported m s h =
-      record { tells = told (rw (m.answers, m.ends) at s) h; leaves = m.leaves; holds = m.holds; logs = m.logs; fills = m.fills }
-
--- ---- one result
 
 module _ {t : Told} {used : ℕ} {before : List ℕ} {r r' : ℤ} {results results' : List ℕ} where
   -- two that tell one answer are one, every place of the results lent: the calls that are lent no log promise this alone

@@ -1,30 +1,32 @@
-// A value as a word of 64 bits, and a word at its place in the results that a caller lends.
-ghost use Rattle.std.specs.Prelude.{◌≡◌, set};
+// A value as a word of 64 bits, and words in the results that a caller lends.
+ghost use Rattle.std.specs.Prelude.{◌≡◌, ◌∷◌, set};
 ghost use Rattle.results.specs.Word.{word};
+ghost use Rattle.results.specs.Results.{placed};
 
-// Two's complement: a cast that lost the sign would be undefined.
-pub fn word(value: i32) -> u64
+// Two's complement.
+#[tactic(auto, using(crate::proofs::Placed::unsigned_word))]
+pub fn word(value: i64) -> u64
     ensures { result ≡ word value }
 {
-    if value < 0 {
-        let below = -1 - value;
-        0xffff_ffff_ffff_ffff - below as u64
-    } else {
-        value as u64
+    value.cast_unsigned()
+}
+
+// A word beyond the last place is dropped.
+fn put_word(results: &mut [u64], place: usize, word: u64)
+    ensures { results.new ≡ set results.old place word }
+{
+    if place < results.len() {
+        results[place] = word;
     }
 }
 
-pub fn word_16(value: i16) -> u64
-    ensures { result ≡ word value }
+// The bytes used, then the words, one by one: `copy_from_slice` becomes memcpy, and the library calls nothing outside.
+#[tactic(auto, using(crate::proofs::Placed::place_more))]
+pub fn put(results: &mut [u64], used: u64, words: &[u64])
+    ensures { results.new ≡ placed 0 (used ∷ words.now) results.old }
 {
-    word(value as i32)
-}
-
-// A value beyond the last place is dropped.
-pub fn put(results: &mut [u64], place: usize, value: u64)
-    ensures { results.new ≡ set results.old place value }
-{
-    if place < results.len() {
-        results[place] = value;
+    put_word(results, 0, used);
+    for (i, &word) in words.iter().enumerate() {
+        put_word(results, i + 1, word);
     }
 }

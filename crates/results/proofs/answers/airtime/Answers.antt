@@ -1,8 +1,7 @@
--- `results::answers::airtime` meets its contract: no bytes are used, then the totals as words, which they are already.
+-- `results::answers::airtime` meets its contract: the totals are words already.
 use Rattle.std.proofs.Common.{refl}
 use Rattle.results.proofs.Placed.{plain_words}
 use Rattle.results.proofs.answers.airtime.Goals as goal
 
-pub returns-in-Totals : goal.returns-in-Totals
-returns-in-Totals c =
-    rw c.in-Totals.is (record { numbers = refl; lists = rw (plain_words c.args.totals.now, c.put_list.ensures, c.put.ensures) })
+pub returns-in-Ok : goal.returns-in-Ok
+returns-in-Ok c = rw c.in-Ok.is (record { numbers = refl; lists = rw (plain_words c.args.totals.now) c.put.ensures })
