@@ -1,4 +1,3 @@
 pub mod Operations
-pub mod Rows
 pub mod Arguments
 pub mod Records

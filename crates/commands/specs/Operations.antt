@@ -1,13 +1,13 @@
 -- The operations: the name of each, its arguments' names, and what numbers they may be.
-use Rattle.std.specs.Prelude.{cond, List, [], ◌∷◌, ℕ, suc}
-use Rattle.text.specs.Fields.{field_at}
+use Rattle.std.specs.Prelude.{cond, List, [], ◌∷◌, ℕ, Option, Some, None}
 use Rattle.text.specs.Words.{ascii, alike}
 use Rattle.commands.specs.declared.Operation.{Operation}
 use Rattle.commands.specs.declared.Operation.TheVariants.{InitLora, CreateModulationParams, CreatePacketParams, Reset, SetStandby, SetSleep, SetTxRxBufferBaseAddress, SetTxPowerAndRampTime, SetModulationParams, SetPacketParams, SetChannel, SetPayload, DoTx, DoRx, GetRxPayload, GetRxPacketStatus, DoCad, SetIrqParams, ProcessIrqEvent, SetTxContinuousWaveMode, Program, ReadLink, Airtime, WriteHex, ReadHex}
-use Rattle.commands.specs.declared.Named.{Named}
-use Rattle.commands.specs.declared.Named.TheVariants.{Known, Unknown}
+use Rattle.commands.specs.declared.Name.{Name}
+use Rattle.commands.specs.declared.signatures.Kind.{Kind}
+use Rattle.commands.specs.declared.signatures.Kind.TheVariants.{Byte, Word, Hertz, Count, Power}
 
--- A kind of argument is told by its largest value; a number of 32 bits with a sign by its own.
+-- The largest value of a kind of argument; a power may be as far below zero too.
 abbrev pub byte : ℕ
 byte = 255
 
@@ -22,6 +22,13 @@ count = 18446744073709551615
 
 abbrev pub power : ℕ
 power = 2147483647
+
+abbrev pub most : Kind → ℕ
+most Byte = byte
+most Word = word
+most Hertz = hertz
+most Count = count
+most Power = power
 
 abbrev pub name : Operation → List ℕ
 name InitLora = ascii "init_lora"
@@ -77,28 +84,28 @@ arguments Airtime = ascii "-"
 arguments WriteHex = ascii "-"
 arguments ReadHex = ascii "-"
 
-abbrev pub kinds : Operation → List ℕ
-kinds InitLora = byte ∷ []
-kinds CreateModulationParams = byte ∷ byte ∷ byte ∷ hertz ∷ []
-kinds CreatePacketParams = word ∷ byte ∷ byte ∷ byte ∷ byte ∷ byte ∷ []
+abbrev pub kinds : Operation → List Kind
+kinds InitLora = Byte ∷ []
+kinds CreateModulationParams = Byte ∷ Byte ∷ Byte ∷ Hertz ∷ []
+kinds CreatePacketParams = Word ∷ Byte ∷ Byte ∷ Byte ∷ Byte ∷ Byte ∷ []
 kinds Reset = []
 kinds SetStandby = []
 kinds SetSleep = []
-kinds SetTxRxBufferBaseAddress = count ∷ count ∷ []
-kinds SetTxPowerAndRampTime = power ∷ byte ∷ []
-kinds SetModulationParams = byte ∷ byte ∷ byte ∷ byte ∷ []
-kinds SetPacketParams = word ∷ byte ∷ byte ∷ byte ∷ byte ∷ []
-kinds SetChannel = hertz ∷ []
+kinds SetTxRxBufferBaseAddress = Count ∷ Count ∷ []
+kinds SetTxPowerAndRampTime = Power ∷ Byte ∷ []
+kinds SetModulationParams = Byte ∷ Byte ∷ Byte ∷ Byte ∷ []
+kinds SetPacketParams = Word ∷ Byte ∷ Byte ∷ Byte ∷ Byte ∷ []
+kinds SetChannel = Hertz ∷ []
 kinds SetPayload = []
 kinds DoTx = []
-kinds DoRx = byte ∷ word ∷ []
+kinds DoRx = Byte ∷ Word ∷ []
 kinds GetRxPayload = []
 kinds GetRxPacketStatus = []
 kinds DoCad = []
-kinds SetIrqParams = byte ∷ byte ∷ []
-kinds ProcessIrqEvent = byte ∷ byte ∷ byte ∷ []
+kinds SetIrqParams = Byte ∷ Byte ∷ []
+kinds ProcessIrqEvent = Byte ∷ Byte ∷ Byte ∷ []
 kinds SetTxContinuousWaveMode = []
-kinds Program = byte ∷ byte ∷ byte ∷ byte ∷ hertz ∷ word ∷ byte ∷ byte ∷ byte ∷ power ∷ []
+kinds Program = Byte ∷ Byte ∷ Byte ∷ Byte ∷ Hertz ∷ Word ∷ Byte ∷ Byte ∷ Byte ∷ Power ∷ []
 kinds ReadLink = []
 kinds Airtime = []
 kinds WriteHex = []
@@ -110,14 +117,14 @@ operations =
     Reset ∷ SetStandby ∷ SetSleep ∷ DoTx ∷ DoRx ∷ DoCad ∷ SetTxContinuousWaveMode ∷ CreatePacketParams ∷ SetPacketParams ∷ SetPayload ∷ GetRxPayload ∷ GetRxPacketStatus ∷ SetIrqParams ∷ ProcessIrqEvent ∷ InitLora ∷ SetTxRxBufferBaseAddress ∷ SetTxPowerAndRampTime ∷ CreateModulationParams ∷ SetModulationParams ∷ SetChannel ∷ Program ∷ ReadLink ∷ Airtime ∷ WriteHex ∷ ReadHex ∷ []
 
 -- the first of some operations whose word this is
-abbrev pub among : (Operation → List ℕ) → List ℕ → List Operation → Named
-among called w [] = Unknown
-among called w (o ∷ os) = cond (alike w (called o)) (Known o) (among called w os)
+abbrev pub among : (Operation → List ℕ) → List ℕ → List Operation → Option Operation
+among called w [] = None
+among called w (o ∷ os) = cond (alike w (called o)) (Some o) (among called w os)
 
--- the first of some operations whose word this is, where their words are those of a text from word k on
-abbrev pub found_from : List ℕ → List ℕ → ℕ → List Operation → Named
-found_from w words k [] = Unknown
-found_from w words k (o ∷ os) = cond (alike w (field_at 32 k words)) (Known o) (found_from w words (suc k) os)
+-- the first of some names whose word this is
+abbrev pub found_among : List ℕ → List Name → Option Operation
+found_among w [] = None
+found_among w (n ∷ ns) = cond (alike w n.0.now) (Some n.1) (found_among w ns)
 
-unfoldable pub operation_of : List ℕ → Named
+unfoldable pub operation_of : List ℕ → Option Operation
 operation_of w = among name w operations

@@ -1,10 +1,10 @@
 // The operations by their names, and the arguments that each takes.
 #![tactic(auto)]
 
-ghost use Rattle.std.specs.Prelude.{◌≡◌, ◌<◌, get_or};
-ghost use Rattle.commands.specs.Operations.{found_from, operations, operation_of};
+ghost use Rattle.std.specs.Prelude.{◌≡◌};
+ghost use Rattle.commands.specs.Operations.{found_among, operation_of};
 
-use text::reading::{field, same};
+use text::reading::same;
 
 pub mod arguments;
 pub mod parameters;
@@ -39,66 +39,64 @@ pub enum Operation {
     ReadHex,
 }
 
+// A word, and the operation that it names.
 #[derive(Clone, Copy)]
-pub enum Named {
-    Known(Operation),
-    Unknown,
-}
+pub struct Name<'a>(pub &'a [u8], pub Operation);
 
-const OPERATIONS: [Operation; 25] = [
-    Operation::Reset,
-    Operation::SetStandby,
-    Operation::SetSleep,
-    Operation::DoTx,
-    Operation::DoRx,
-    Operation::DoCad,
-    Operation::SetTxContinuousWaveMode,
-    Operation::CreatePacketParams,
-    Operation::SetPacketParams,
-    Operation::SetPayload,
-    Operation::GetRxPayload,
-    Operation::GetRxPacketStatus,
-    Operation::SetIrqParams,
-    Operation::ProcessIrqEvent,
-    Operation::InitLora,
-    Operation::SetTxRxBufferBaseAddress,
-    Operation::SetTxPowerAndRampTime,
-    Operation::CreateModulationParams,
-    Operation::SetModulationParams,
-    Operation::SetChannel,
-    Operation::Program,
-    Operation::ReadLink,
-    Operation::Airtime,
-    Operation::WriteHex,
-    Operation::ReadHex,
+const NAMES: [Name<'static>; 25] = [
+    Name(b"reset", Operation::Reset),
+    Name(b"set_standby", Operation::SetStandby),
+    Name(b"set_sleep", Operation::SetSleep),
+    Name(b"do_tx", Operation::DoTx),
+    Name(b"do_rx", Operation::DoRx),
+    Name(b"do_cad", Operation::DoCad),
+    Name(
+        b"set_tx_continuous_wave_mode",
+        Operation::SetTxContinuousWaveMode,
+    ),
+    Name(b"create_packet_params", Operation::CreatePacketParams),
+    Name(b"set_packet_params", Operation::SetPacketParams),
+    Name(b"set_payload", Operation::SetPayload),
+    Name(b"get_rx_payload", Operation::GetRxPayload),
+    Name(b"get_rx_packet_status", Operation::GetRxPacketStatus),
+    Name(b"set_irq_params", Operation::SetIrqParams),
+    Name(b"process_irq_event", Operation::ProcessIrqEvent),
+    Name(b"init_lora", Operation::InitLora),
+    Name(
+        b"set_tx_rx_buffer_base_address",
+        Operation::SetTxRxBufferBaseAddress,
+    ),
+    Name(
+        b"set_tx_power_and_ramp_time",
+        Operation::SetTxPowerAndRampTime,
+    ),
+    Name(
+        b"create_modulation_params",
+        Operation::CreateModulationParams,
+    ),
+    Name(b"set_modulation_params", Operation::SetModulationParams),
+    Name(b"set_channel", Operation::SetChannel),
+    Name(b"program", Operation::Program),
+    Name(b"read_link", Operation::ReadLink),
+    Name(b"airtime", Operation::Airtime),
+    Name(b"write_hex", Operation::WriteHex),
+    Name(b"read_hex", Operation::ReadHex),
 ];
 
-fn operation_at(k: usize) -> Operation
-    requires { k < 25 }
-    ensures { result ≡ get_or operations k Operation.InitLora }
+// The operation whose word this is.
+pub fn found(w: &[u8], names: &[Name<'_>]) -> Option<Operation>
+    ensures { result ≡ found_among w.now names.now }
 {
-    OPERATIONS[k]
-}
-
-// The operation whose word this is in a list of words, which stand in the order of the operations.
-pub fn found(w: &[u8], words: &[u8]) -> Named
-    ensures { result ≡ found_from w.now words.now 0 operations }
-{
-    let mut k = 0;
-    while k < 25 {
-        if same(w, field(words, b' ', k)) {
-            return Named::Known(operation_at(k));
+    for &Name(word, operation) in names {
+        if same(w, word) {
+            return Some(operation);
         }
-        k += 1;
     }
-    Named::Unknown
+    None
 }
 
-pub fn operation_named(w: &[u8]) -> Named
+pub fn operation_named(w: &[u8]) -> Option<Operation>
     ensures { result ≡ operation_of w.now }
 {
-    found(
-        w,
-        b"reset set_standby set_sleep do_tx do_rx do_cad set_tx_continuous_wave_mode create_packet_params set_packet_params set_payload get_rx_payload get_rx_packet_status set_irq_params process_irq_event init_lora set_tx_rx_buffer_base_address set_tx_power_and_ramp_time create_modulation_params set_modulation_params set_channel program read_link airtime write_hex read_hex",
-    )
+    found(w, &NAMES)
 }

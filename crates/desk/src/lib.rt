@@ -2,7 +2,6 @@
 #![tactic(auto)]
 
 pub mod arguments;
-pub mod buffers;
 pub mod files;
 pub mod options;
 pub mod streams;

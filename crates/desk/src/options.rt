@@ -1,74 +1,84 @@
 // The options of a desk tool's command line, and whether it names files.
-ghost use Rattle.std.specs.Prelude.{◌≡◌, ◌≢◌, ◌↔◌, IsTrue, true, codes};
+ghost use Rattle.std.specs.Prelude.{◌≡◌, ◌≢◌, ◌↔◌, IsTrue, true, codes, Ok, Err, if◌then◌else◌};
 ghost use Rattle.desk.specs.CommandLine.{IsOption};
+ghost use Rattle.desk.specs.Held.{Spares};
 
 use crate::streams::{Stream, Streams};
 use std::io::Write;
-use text::reading::same;
 
-// Wrong is a word that a tool does not take; it is told where it is found.
-#[derive(Clone, Copy)]
+// What a tool is to do with its files; several is true of the second file and all after it. Two flags and no enum:
+// clause `file` of `with_word` promises each.
+#[derive(Clone, Copy, Default)]
 pub struct Options {
     pub table: bool,
     pub aloud: bool,
     pub files: bool,
     pub several: bool,
-    pub help: bool,
-    pub wrong: bool,
 }
 
-pub fn none() -> Options {
-    Options {
-        table: false,
-        aloud: false,
-        files: false,
-        several: false,
-        help: false,
-        wrong: false,
+// Why a tool looks at no files: it was asked for help, or a word is wrong, which is told where it is found.
+#[derive(Clone, Copy, PartialEq, Eq)]
+pub enum Stop {
+    Help,
+    Wrong,
+}
+
+impl Options {
+    // Where messages go.
+    pub fn voice(self) -> Stream
+        ensures { result ≡ (if self.aloud then Stream.Output else Stream.Error) }
+    {
+        if self.aloud {
+            Stream::Output
+        } else {
+            Stream::Error
+        }
+    }
+}
+
+impl Stop {
+    // What a tool says where it stops: how it is called, and all about it where it was asked for help.
+    pub fn explain<O: Write, E: Write>(self, streams: &mut Streams<O, E>, usage: &[u8], help: &[u8])
+        ensures help { self ≡ Stop.Help
+            → Spares O.contents E.contents Stream.Output streams.old streams.new }
+        ensures wrong { self ≡ Stop.Wrong
+            → Spares O.contents E.contents Stream.Error streams.old streams.new }
+    {
+        match self {
+            Stop::Help => {
+                streams.put(Stream::Output, usage);
+                streams.put(Stream::Output, help);
+            }
+            Stop::Wrong => streams.put(Stream::Error, usage),
+        }
     }
 }
 
 pub fn is_option(word: &[u8]) -> bool
     ensures { IsTrue result ↔ IsOption word.now }
 {
-    if word.len() < 2 {
-        return false;
-    }
-    word[0] == b'-'
+    word.len() >= 2 && word[0] == b'-'
 }
 
 pub fn wrong<O: Write, E: Write>(
     streams: &mut Streams<O, E>,
-    options: Options,
     program: &[u8],
     what: &[u8],
     text: &[u8],
-) -> Options
-    ensures { result ≡ record options { wrong = true } }
+) -> Stop
+    ensures { result ≡ Stop.Wrong }
 {
     streams.put(Stream::Error, program);
     streams.put(Stream::Error, b": ");
     streams.put(Stream::Error, what);
     streams.put(Stream::Error, text);
-    let mut o = options;
-    o.wrong = true;
-    o
+    Stop::Wrong
 }
 
-pub fn too_long<O: Write, E: Write>(
-    streams: &mut Streams<O, E>,
-    options: Options,
-    program: &[u8],
-) -> Options
-    ensures { result ≡ record options { wrong = true } }
+pub fn too_long<O: Write, E: Write>(streams: &mut Streams<O, E>, program: &[u8]) -> Stop
+    ensures { result ≡ Stop.Wrong }
 {
-    wrong(
-        streams,
-        options,
-        program,
-        b"a word",
-        b" has more than 4096 bytes\n",
-    )
+    wrong(streams, program, b"a word", b" has more than 4096 bytes\n")
 }
 
 // A word that is no option names a file.
@@ -77,28 +87,31 @@ pub fn with_word<O: Write, E: Write>(
     options: Options,
     program: &[u8],
     word: &[u8],
-) -> Options
+) -> Result<Options, Stop>
     ensures file { (IsOption word.now → ⊥)
-        → result ≡ record options { files = true; several = options.files } }
-    ensures table { word.now ≡ codes "-t" → result ≡ record options { table = true } }
-    ensures aloud { word.now ≡ codes "-e" → result ≡ record options { aloud = true } }
-    ensures help { word.now ≡ codes "-h" → result ≡ record options { help = true } }
+        → result ≡ Ok (record options { files = true; several = options.files }) }
+    ensures table { word.now ≡ codes "-t" → result ≡ Ok (record options { table = true }) }
+    ensures aloud { word.now ≡ codes "-e" → result ≡ Ok (record options { aloud = true }) }
+    ensures help { word.now ≡ codes "-h" → result ≡ Err Stop.Help }
     ensures wrong { IsOption word.now
         → word.now ≢ codes "-t" → word.now ≢ codes "-e" → word.now ≢ codes "-h"
-        → result ≡ record options { wrong = true } }
+        → result ≡ Err Stop.Wrong }
 {
-    let mut o = options;
-    if !is_option(word) {
-        o.several = o.files;
-        o.files = true;
-    } else if same(word, b"-t") {
-        o.table = true;
-    } else if same(word, b"-e") {
-        o.aloud = true;
-    } else if same(word, b"-h") {
-        o.help = true;
-    } else {
-        return wrong(streams, o, program, word, b" is no option\n");
+    match word {
+        b"-t" => Ok(Options {
+            table: true,
+            ..options
+        }),
+        b"-e" => Ok(Options {
+            aloud: true,
+            ..options
+        }),
+        b"-h" => Err(Stop::Help),
+        _ if is_option(word) => Err(wrong(streams, program, word, b" is no option\n")),
+        _ => Ok(Options {
+            files: true,
+            several: options.files,
+            ..options
+        }),
     }
-    o
 }

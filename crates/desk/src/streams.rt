@@ -56,15 +56,15 @@ impl<O: Write, E: Write> Streams<O, E> {
 
 // The words of an error that lie at the start of a text, without the number that the system gives it.
 fn reason(text: &[u8], n: u64) -> &[u8] {
-    let all = match usize::try_from(n) {
-        Ok(n) if n <= text.len() => &text[..n],
-        _ => text,
+    let all = usize::try_from(n)
+        .ok()
+        .and_then(|n| text.get(..n))
+        .unwrap_or(text);
+    let Ok(said) = std::str::from_utf8(all) else {
+        return all;
     };
-    match std::str::from_utf8(all) {
-        Ok(said) => match said.split_once(" (os error ") {
-            Some((words, _)) => words.as_bytes(),
-            None => all,
-        },
-        Err(_) => all,
+    match said.split_once(" (os error ") {
+        Some((words, _)) => words.as_bytes(),
+        None => all,
     }
 }

@@ -9,7 +9,7 @@ use Rattle.operations.specs.Modes.{reset, set_standby, set_sleep, do_tx, do_cad,
 use Rattle.operations.specs.Power.{set_power}
 use Rattle.operations.specs.Modem.{create_modulation, create_packet, set_modulation, set_packet}
 use Rattle.operations.specs.Programming.{program_link}
-use Rattle.operations.specs.Interrupts.{set_irq}
+use Rattle.operations.specs.Interrupts.{set_irq, process_irq}
 use Rattle.commands.specs.declared.Operation.{Operation}
 use Rattle.commands.specs.declared.Operation.TheVariants.{InitLora, CreateModulationParams, CreatePacketParams, Reset, SetStandby, SetSleep, SetTxRxBufferBaseAddress, SetTxPowerAndRampTime, SetModulationParams, SetPacketParams, SetChannel, SetPayload, DoTx, DoRx, GetRxPayload, GetRxPacketStatus, DoCad, SetIrqParams, ProcessIrqEvent, SetTxContinuousWaveMode, Program, ReadLink, Airtime, WriteHex, ReadHex}
 use Rattle.commands.specs.Operations.{byte, word, hertz, count}
@@ -24,6 +24,9 @@ abbrev pub packet_created : ℕ → List ℕ → Told
 packet_created parting s =
     create_packet (argument word parting s 0) (argument byte parting s 1) (argument byte parting s 2) (argument byte parting s 3)
     (argument byte parting s 4) (argument byte parting s 5)
+
+abbrev pub event : ℕ → List ℕ → List ℕ → List ℕ → ℕ → Outcome
+event parting s = process_irq (argument byte parting s 0) (argument byte parting s 1) (argument byte parting s 2)
 
 -- a call that changes nothing
 abbrev pub idle : List ℕ → List ℕ → ℕ → Outcome

@@ -1,5 +1,5 @@
 -- What is wrong with an input, in words, and with the refusal's number and name.
-use Rattle.std.specs.Prelude.{List, [], ◌∷◌, ◌++◌, ℕ, length, take, get_or}
+use Rattle.std.specs.Prelude.{List, [], ◌∷◌, ◌++◌, ℕ, length, take, get_or, Ok, Err}
 use Rattle.text.specs.declared.hex.Case.TheVariants.{Upper}
 use Rattle.text.specs.Words.{ascii}
 use Rattle.text.specs.Numbers.{decimal, hex}
@@ -8,9 +8,11 @@ use Rattle.params.specs.declared.hex_faults.HexFault.{HexFault}
 use Rattle.params.specs.HexFaults.{hex_error_of}
 use Rattle.replies.specs.Names.{error_text}
 use Rattle.intel_hex.specs.FaultWords.{words_of}
-use Rattle.dump.specs.declared.hex_text.Read.{Read}
-use Rattle.dump.specs.declared.hex_text.Read.TheVariants.{Image, Bytes, Missing, Bad, Record}
+use Rattle.dump.specs.declared.DumpError.TheVariants.{Bytes, Missing, Bad, Record}
+use Rattle.dump.specs.declared.faults.Naming.{Naming}
+use Rattle.dump.specs.declared.faults.Naming.TheVariants.{Words, Refusal}
 use Rattle.dump.specs.Spot.{line_from, column_from, last_line}
+use Rattle.dump.specs.Text.{Reading}
 
 -- where something stands behind a text
 abbrev pub place_text : List ℕ → List ℕ
@@ -32,25 +34,22 @@ line_text line = ascii "line " ++ (decimal line ++ ascii ": ")
 abbrev pub record_text : HexFault → ℕ → List ℕ
 record_text f line = line_text line ++ (error_text (hex_error_of f) ++ (words_of f ++ ascii "\n"))
 
-abbrev pub fault_text : Read → List ℕ → List ℕ
-fault_text Image s = []
-fault_text (Bytes n) s = count_text n
-fault_text (Missing at) s = place_text (take at s) ++ missing_text
-fault_text (Bad at) s = place_text (take at s) ++ bad_text (get_or s at 0) (length s)
-fault_text (Record f line) s = record_text f line
+-- the refusal's number and name, where it is to be named
+abbrev pub named_text : Naming → List ℕ
+named_text Words = []
+named_text Refusal = error_text BadImage
 
--- ---- the same with a number and a name in each
+-- a wrong count of bytes is told of the text's last line, where the refusal is named
+abbrev pub counted_line : Naming → List ℕ → List ℕ
+counted_line Words s = []
+counted_line Refusal s = line_text (last_line s)
 
-abbrev pub refused_at : List ℕ → List ℕ
-refused_at s = place_text s ++ error_text BadImage
+abbrev pub miscounted_text : Naming → ℕ → List ℕ → List ℕ
+miscounted_text naming n s = counted_line naming s ++ (named_text naming ++ count_text n)
 
--- a wrong count of bytes is told of the text's last line
-abbrev pub miscounted : ℕ → List ℕ → List ℕ
-miscounted n s = line_text (last_line s) ++ (error_text BadImage ++ count_text n)
-
-abbrev pub refusal_text : Read → List ℕ → List ℕ
-refusal_text Image s = []
-refusal_text (Bytes n) s = miscounted n s
-refusal_text (Missing at) s = refused_at (take at s) ++ missing_text
-refusal_text (Bad at) s = refused_at (take at s) ++ bad_text (get_or s at 0) (length s)
-refusal_text (Record f line) s = record_text f line
+abbrev pub fault_text : Naming → Reading → List ℕ → List ℕ
+fault_text naming (Ok tt) s = []
+fault_text naming (Err (Bytes n)) s = miscounted_text naming n s
+fault_text naming (Err (Missing at)) s = place_text (take at s) ++ (named_text naming ++ missing_text)
+fault_text naming (Err (Bad at)) s = place_text (take at s) ++ (named_text naming ++ bad_text (get_or s at 0) (length s))
+fault_text naming (Err (Record f line)) s = record_text f line

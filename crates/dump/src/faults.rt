@@ -1,111 +1,140 @@
 // What is wrong with an input of registers, in words.
-pub(crate) mod spot;
+#![tactic(auto, using(text::proofs::printing::Appending::texts))]
 
-ghost use Rattle.std.specs.Prelude.{◌≡◌, ◌+◌, ◌≤◌, length, take, get_or};
-ghost use Rattle.text.specs.Text.{Appended};
-ghost use Rattle.dump.specs.Faults.{place_text, bad_text, count_text, missing_text, line_text, record_text, fault_text};
+mod spot;
 
-use crate::Read;
-use crate::faults::spot::spot_behind;
+ghost use Rattle.std.specs.Prelude.{◌≡◌, ◌+◌, ◌≤◌, take, get_or};
+ghost use Rattle.text.specs.Text.{Space, Put};
+ghost use Rattle.dump.specs.Faults.{place_text, bad_text, count_text, missing_text, line_text, record_text, named_text, miscounted_text, fault_text};
+
+use crate::DumpError;
+use crate::faults::spot::{last_line, spot_behind};
 use intel_hex::fault_words::put_words;
 use params::hex_faults::HexFault;
+use params::mod_params::RadioError;
 use replies::names::put_error;
 use text::hex::Case;
-use text::printing::{put, put_hex};
-use text::put_decimals::put_decimal;
+use text::printing::Text;
+
+// Whether the refusal's number and name stand before the words.
+#[derive(Clone, Copy, PartialEq, Eq)]
+pub enum Naming {
+    Words,
+    Refusal,
+}
 
 // The text before a place.
-pub(crate) fn before(s: &[u8], at: usize) -> &[u8]
+fn before(s: &[u8], at: usize) -> &[u8]
     ensures { result.now ≡ take at s.now }
 {
-    if at < s.len() { &s[..at] } else { s }
+    s.get(..at).unwrap_or(s)
 }
 
-pub(crate) fn byte_at(s: &[u8], at: usize) -> u8
+fn byte_at(s: &[u8], at: usize) -> u8
     ensures { result ≡ get_or s.now at 0 }
 {
-    if at < s.len() { s[at] } else { 0 }
+    s.get(at).copied().unwrap_or(0)
 }
 
-pub(crate) fn put_place(s: &[u8], out: &mut [u8], at: usize) -> usize
-    requires { at + 60 ≤ length out.old }
-    ensures appended { Appended (place_text s.now) at out.old result out.new }
-    ensures upper_bound { result ≤ at + 60 }
+fn put_place(s: &[u8], out: &mut Text<'_>)
+    requires { Space 60 out.old }
+    ensures appended { Put (place_text s.now) out.old out.new }
+    ensures upper_bound { out.new.end ≤ out.old.end + 60 }
 {
     let spot = spot_behind(s);
-    let at = put(b"line ", out, at);
-    let at = put_decimal(spot.line as u64, out, at);
-    let at = put(b", column ", out, at);
-    let at = put_decimal(spot.column as u64, out, at);
-    put(b": ", out, at)
+    out.put(b"line ");
+    out.put_decimal(spot.line as u64);
+    out.put(b", column ");
+    out.put_decimal(spot.column as u64);
+    out.put(b": ");
 }
 
-pub(crate) fn put_bad(b: u8, size: usize, out: &mut [u8], at: usize) -> usize
-    requires { at + 100 ≤ length out.old }
-    ensures appended { Appended (bad_text b size) at out.old result out.new }
-    ensures upper_bound { result ≤ at + 100 }
+fn put_bad(b: u8, size: usize, out: &mut Text<'_>)
+    requires { Space 100 out.old }
+    ensures appended { Put (bad_text b size) out.old out.new }
+    ensures upper_bound { out.new.end ≤ out.old.end + 100 }
 {
-    let at = put(b"0x", out, at);
-    let at = put_hex(&[b], Case::Upper, out, at);
-    let at = put(b" stands in no hex text, and ", out, at);
-    let at = put_decimal(size as u64, out, at);
-    put(b" bytes are not the 128 of a raw image\n", out, at)
+    out.put(b"0x");
+    out.put_hex(&[b], Case::Upper);
+    out.put(b" stands in no hex text, and ");
+    out.put_decimal(size as u64);
+    out.put(b" bytes are not the 128 of a raw image\n");
 }
 
-pub(crate) fn put_count(n: usize, out: &mut [u8], at: usize) -> usize
-    requires { at + 70 ≤ length out.old }
-    ensures appended { Appended (count_text n) at out.old result out.new }
-    ensures upper_bound { result ≤ at + 70 }
+fn put_count(n: usize, out: &mut Text<'_>)
+    requires { Space 70 out.old }
+    ensures appended { Put (count_text n) out.old out.new }
+    ensures upper_bound { out.new.end ≤ out.old.end + 70 }
 {
-    let at = put(b"hex text of ", out, at);
-    let at = put_decimal(n as u64, out, at);
-    put(b" bytes, and an image has 128\n", out, at)
+    out.put(b"hex text of ");
+    out.put_decimal(n as u64);
+    out.put(b" bytes, and an image has 128\n");
 }
 
-pub(crate) fn put_missing(out: &mut [u8], at: usize) -> usize
-    requires { at + 47 ≤ length out.old }
-    ensures { Appended missing_text at out.old result out.new }
+fn put_line(line: usize, out: &mut Text<'_>)
+    requires { Space 27 out.old }
+    ensures appended { Put (line_text line) out.old out.new }
+    ensures upper_bound { out.new.end ≤ out.old.end + 27 }
 {
-    put(b"a byte has two digits, and one is missing here\n", out, at)
+    out.put(b"line ");
+    out.put_decimal(line as u64);
+    out.put(b": ");
 }
 
-pub(crate) fn put_line(line: usize, out: &mut [u8], at: usize) -> usize
-    requires { at + 27 ≤ length out.old }
-    ensures appended { Appended (line_text line) at out.old result out.new }
-    ensures upper_bound { result ≤ at + 27 }
+fn put_record(f: HexFault, line: usize, out: &mut Text<'_>)
+    requires { Space 540 out.old }
+    ensures appended { Put (record_text f line) out.old out.new }
+    ensures upper_bound { out.new.end ≤ out.old.end + 540 }
 {
-    let at = put(b"line ", out, at);
-    let at = put_decimal(line as u64, out, at);
-    put(b": ", out, at)
+    put_line(line, out);
+    put_error(f.into(), out);
+    put_words(f, out);
+    out.put(b"\n");
 }
 
-pub(crate) fn put_record(f: HexFault, line: usize, out: &mut [u8], at: usize) -> usize
-    requires { at + 540 ≤ length out.old }
-    ensures appended { Appended (record_text f line) at out.old result out.new }
-    ensures upper_bound { result ≤ at + 540 }
+// The refusal, where it is to be named.
+fn put_named(naming: Naming, out: &mut Text<'_>)
+    requires { Space 54 out.old }
+    ensures appended { Put (named_text naming) out.old out.new }
+    ensures upper_bound { out.new.end ≤ out.old.end + 54 }
 {
-    let at = put_line(line, out, at);
-    let at = put_error(f.error(), out, at);
-    let at = put_words(f, out, at);
-    put(b"\n", out, at)
+    if let Naming::Refusal = naming {
+        put_error(RadioError::BadImage, out);
+    }
 }
 
-pub fn put_fault(read: Read, s: &[u8], out: &mut [u8], at: usize) -> usize
-    requires { at + 540 ≤ length out.old }
-    ensures appended { Appended (fault_text read s.now) at out.old result out.new }
-    ensures upper_bound { result ≤ at + 540 }
+// Where the refusal is named, a wrong count of bytes is told of the text's last line.
+fn put_miscounted(n: usize, s: &[u8], naming: Naming, out: &mut Text<'_>)
+    requires { Space 160 out.old }
+    ensures appended { Put (miscounted_text naming n s.now) out.old out.new }
+    ensures upper_bound { out.new.end ≤ out.old.end + 160 }
+{
+    if let Naming::Refusal = naming {
+        put_line(last_line(s), out);
+    }
+    put_named(naming, out);
+    put_count(n, out);
+}
+
+// An input that holds an image has no fault, and nothing is written of it.
+pub fn put_fault(read: Result<(), DumpError>, s: &[u8], naming: Naming, out: &mut Text<'_>)
+    requires { Space 540 out.old }
+    ensures appended { Put (fault_text naming read s.now) out.old out.new }
+    ensures upper_bound { out.new.end ≤ out.old.end + 540 }
 {
     match read {
-        Read::Image => at,
-        Read::Bytes(n) => put_count(n, out, at),
-        Read::Missing(k) => {
-            let at = put_place(before(s, k), out, at);
-            put_missing(out, at)
+        Ok(()) => {}
+        Err(DumpError::Bytes(n)) => put_miscounted(n, s, naming, out),
+        Err(DumpError::Missing(k)) => {
+            put_place(before(s, k), out);
+            put_named(naming, out);
+            out.put(b"a byte has two digits, and one is missing here\n");
         }
-        Read::Bad(k) => {
-            let at = put_place(before(s, k), out, at);
-            put_bad(byte_at(s, k), s.len(), out, at)
+        Err(DumpError::Bad(k)) => {
+            put_place(before(s, k), out);
+            put_named(naming, out);
+            put_bad(byte_at(s, k), s.len(), out);
         }
-        Read::Record(f, line) => put_record(f, line, out, at),
+        Err(DumpError::Record(f, line)) => put_record(f, line, out),
     }
 }

@@ -6,37 +6,35 @@ ghost use Rattle.dump.specs.Dump.{is_raw, read_of, left_of};
 
 use characters::could_be_hex;
 use hex_text::read_text;
+use params::hex_faults::HexFault;
 use records::{is_records, read_records};
-use text::bytes::copy;
 
 mod characters;
 pub mod faults;
 mod hex_text;
 mod records;
-pub mod refusals;
 
-pub use hex_text::Read;
+// Why an input holds no image: it says another number of bytes than 128, or at some place a digit is missing or a
+// character is bad, or a line of records is bad.
+#[derive(Clone, Copy, PartialEq, Eq)]
+pub enum DumpError {
+    Bytes(usize),
+    Missing(usize),
+    Bad(usize),
+    Record(HexFault, usize),
+}
 
 // Raw bytes, and not hex text that happens to be of 128 characters.
-#[tactic(auto, using(text::proofs::reading::Tests::fails), unfolding(crate::specs::Dump::is_raw))]
+#[tactic(auto, using(text::proofs::reading::Tests::all_passes), unfolding(crate::specs::Dump::is_raw))]
 fn is_raw(input: &[u8]) -> bool
     ensures { result ≡ is_raw input.now }
 {
-    if input.len() != 128 {
-        return false;
-    }
-    let mut i = 0;
-    while i < input.len() {
-        if !could_be_hex(input[i]) {
-            return true;
-        }
-        i += 1;
-    }
-    false
+    input.len() == 128 && !input.iter().all(|&c| could_be_hex(c))
 }
 
 // Puts the image that the input holds into a lent place, which stays as it was where it holds none.
-pub fn read(input: &[u8], image: &mut [u8]) -> Read
+#[tactic(auto, using(crate::proofs::Raw::raw_size))]
+pub fn read(input: &[u8], image: &mut [u8]) -> Result<(), DumpError>
     requires { length image.old ≡ 128 }
     ensures { (result ≡ read_of input.now) × (image.new ≡ left_of input.now image.old) }
 {
@@ -44,8 +42,8 @@ pub fn read(input: &[u8], image: &mut [u8]) -> Read
         return read_records(input, image);
     }
     if is_raw(input) {
-        copy(input, image);
-        return Read::Image;
+        image.copy_from_slice(input);
+        return Ok(());
     }
     read_text(input, image)
 }

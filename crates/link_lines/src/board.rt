@@ -1,56 +1,60 @@
 // A board as a person wants it, in a line.
-ghost use Rattle.std.specs.Prelude.{◌+◌, ◌≤◌, length};
-ghost use Rattle.text.specs.Text.{Appended};
+#![tactic(auto, using(text::proofs::printing::Appending::texts))]
+
+ghost use Rattle.std.specs.Prelude.{◌+◌, ◌≤◌};
+ghost use Rattle.text.specs.Text.{Space, Put};
 ghost use Rattle.link_lines.specs.Board.{chip_text, boost_text, oscillator_text, board_line};
 
 use sheets::Variant;
-use text::printing::put;
+use text::printing::Text;
 
 // What is known of a board's oscillator.
-#[derive(Clone, Copy)]
+#[derive(Clone, Copy, PartialEq, Eq)]
 pub enum Oscillator {
     Crystal,
     Tcxo,
     Either,
 }
 
-fn put_chip(variant: Variant, out: &mut [u8], at: usize) -> usize
-    requires { at + 30 ≤ length out.old }
-    ensures appended { Appended (chip_text variant) at out.old result out.new }
-    ensures upper_bound { result ≤ at + 30 }
+fn put_chip(variant: Variant, out: &mut Text<'_>)
+    requires { Space 30 out.old }
+    ensures appended { Put (chip_text variant) out.old out.new }
+    ensures upper_bound { out.new.end ≤ out.old.end + 30 }
 {
     match variant {
-        Variant::Sx1272 => put(b"board             SX1272", out, at),
-        Variant::Sx1276 => put(b"board             SX1276", out, at),
+        Variant::Sx1272 => out.put(b"board             SX1272"),
+        Variant::Sx1276 => out.put(b"board             SX1276"),
     }
 }
 
-fn put_boost(boost: bool, out: &mut [u8], at: usize) -> usize
-    requires { at + 10 ≤ length out.old }
-    ensures appended { Appended (boost_text boost) at out.old result out.new }
-    ensures upper_bound { result ≤ at + 10 }
+fn put_boost(boost: bool, out: &mut Text<'_>)
+    requires { Space 10 out.old }
+    ensures appended { Put (boost_text boost) out.old out.new }
+    ensures upper_bound { out.new.end ≤ out.old.end + 10 }
 {
-    if boost { put(b", boost", out, at) } else { at }
+    if boost {
+        out.put(b", boost");
+    }
 }
 
-fn put_oscillator(o: Oscillator, out: &mut [u8], at: usize) -> usize
-    requires { at + 30 ≤ length out.old }
-    ensures appended { Appended (oscillator_text o) at out.old result out.new }
-    ensures upper_bound { result ≤ at + 30 }
+fn put_oscillator(o: Oscillator, out: &mut Text<'_>)
+    requires { Space 30 out.old }
+    ensures appended { Put (oscillator_text o) out.old out.new }
+    ensures upper_bound { out.new.end ≤ out.old.end + 30 }
 {
     match o {
-        Oscillator::Crystal => put(b"\n", out, at),
-        Oscillator::Tcxo => put(b", TCXO\n", out, at),
-        Oscillator::Either => put(b", with or without TCXO\n", out, at),
+        Oscillator::Crystal => out.put(b"\n"),
+        Oscillator::Tcxo => out.put(b", TCXO\n"),
+        Oscillator::Either => out.put(b", with or without TCXO\n"),
     }
 }
 
-pub fn put_board(variant: Variant, boost: bool, o: Oscillator, out: &mut [u8], at: usize) -> usize
-    requires { at + 70 ≤ length out.old }
-    ensures appended { Appended (board_line variant boost o) at out.old result out.new }
-    ensures upper_bound { result ≤ at + 70 }
+pub fn put_board(variant: Variant, boost: bool, o: Oscillator, out: &mut Text<'_>)
+    requires { Space 70 out.old }
+    ensures appended { Put (board_line variant boost o) out.old out.new }
+    ensures upper_bound { out.new.end ≤ out.old.end + 70 }
 {
-    let at = put_chip(variant, out, at);
-    let at = put_boost(boost, out, at);
-    put_oscillator(o, out, at)
+    put_chip(variant, out);
+    put_boost(boost, out);
+    put_oscillator(o, out);
 }

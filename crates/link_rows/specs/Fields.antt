@@ -1,5 +1,5 @@
 -- The fields of a row, and those of a board.
-use Rattle.std.specs.Prelude.{Bool, true, false, List, [], ◌++◌, ℕ}
+use Rattle.std.specs.Prelude.{Bool, true, false, List, [], ◌∷◌, ◌++◌, ℕ}
 use Rattle.sheets.specs.declared.Variant.{Variant}
 use Rattle.sheets.specs.declared.Variant.TheVariants.{Sx1272, Sx1276}
 use Rattle.params.specs.declared.board.Board.{Board}
@@ -9,8 +9,10 @@ use Rattle.link_lines.specs.Numbers.{counted}
 abbrev pub field : ℕ → List ℕ
 field n = counted (ascii "\t") n []
 
-abbrev pub four_fields : ℕ → ℕ → ℕ → ℕ → List ℕ
-four_fields a b c d = field a ++ (field b ++ (field c ++ field d))
+-- one behind another
+abbrev pub fields : List ℕ → List ℕ
+fields [] = []
+fields (n ∷ ns) = field n ++ fields ns
 
 abbrev pub chip : Variant → ℕ
 chip Sx1272 = 1272
@@ -22,4 +24,4 @@ bit false = 0
 
 -- the board, and the number that the reader answers
 abbrev pub board_fields : Board → ℕ → List ℕ
-board_fields b answer = four_fields (chip b.variant) (bit b.tcxo_used) (bit b.tx_boost) answer
+board_fields b answer = fields (chip b.variant ∷ bit b.tcxo_used ∷ bit b.tx_boost ∷ answer ∷ [])

@@ -1,29 +1,31 @@
 // The fields of a row, a tab and a number each, and those of a board.
-ghost use Rattle.std.specs.Prelude.{◌≡◌, ◌+◌, ◌≤◌, length};
-ghost use Rattle.text.specs.Text.{Appended};
-ghost use Rattle.link_rows.specs.Fields.{field, four_fields, chip as chip_of, bit as bit_of, board_fields};
+ghost use Rattle.std.specs.Prelude.{◌≡◌, ◌+◌, ◌*◌, ◌≤◌, length};
+ghost use Rattle.text.specs.Text.{Space, Put};
+ghost use Rattle.link_rows.specs.Fields.{field, fields, chip as chip_of, board_fields};
 
 use link_lines::numerals::put_counted;
 use params::board::Board;
 use sheets::Variant;
+use text::printing::Text;
 
-pub fn put_field(n: u64, out: &mut [u8], at: usize) -> usize
-    requires { at + 60 ≤ length out.old }
-    ensures appended { Appended (field n) at out.old result out.new }
-    ensures upper_bound { result ≤ at + 60 }
+pub fn put_field(n: u64, out: &mut Text<'_>)
+    requires { Space 60 out.old }
+    ensures appended { Put (field n) out.old out.new }
+    ensures upper_bound { out.new.end ≤ out.old.end + 60 }
 {
-    put_counted(b"\t", n, b"", out, at)
+    put_counted(b"\t", n, b"", out);
 }
 
-pub fn put_four(a: u64, b: u64, c: u64, d: u64, out: &mut [u8], at: usize) -> usize
-    requires { at + 240 ≤ length out.old }
-    ensures appended { Appended (four_fields a b c d) at out.old result out.new }
-    ensures upper_bound { result ≤ at + 240 }
+// One field behind another.
+#[tactic(auto, using(text::proofs::printing::Appending::texts))]
+pub fn put_fields(numbers: &[u64], out: &mut Text<'_>)
+    requires { Space (60 * length numbers.now) out.old }
+    ensures appended { Put (fields numbers.now) out.old out.new }
+    ensures upper_bound { out.new.end ≤ out.old.end + 60 * length numbers.now }
 {
-    let at = put_field(a, out, at);
-    let at = put_field(b, out, at);
-    let at = put_field(c, out, at);
-    put_field(d, out, at)
+    for &n in numbers {
+        put_field(n, out);
+    }
 }
 
 fn chip(variant: Variant) -> u64
@@ -35,25 +37,17 @@ fn chip(variant: Variant) -> u64
     }
 }
 
-fn bit(flag: bool) -> u64
-    ensures { result ≡ bit_of flag }
-{
-    if flag { 1 } else { 0 }
-}
-
 // The board, and the number that the reader answers: 0 for a link, or 27.
-pub fn put_board_fields(board: Board, answer: u8, out: &mut [u8], at: usize) -> usize
-    requires { at + 240 ≤ length out.old }
-    ensures appended { Appended (board_fields board answer) at out.old result out.new }
-    ensures upper_bound { result ≤ at + 240 }
+pub fn put_board_fields(board: Board, answer: u8, out: &mut Text<'_>)
+    requires { Space 240 out.old }
+    ensures appended { Put (board_fields board answer) out.old out.new }
+    ensures upper_bound { out.new.end ≤ out.old.end + 240 }
 {
-    let variant = board.variant;
-    put_four(
-        chip(variant),
-        bit(board.tcxo_used),
-        bit(board.tx_boost),
-        answer as u64,
-        out,
-        at,
-    )
+    let numbers = [
+        chip(board.variant),
+        u64::from(board.tcxo_used),
+        u64::from(board.tx_boost),
+        u64::from(answer),
+    ];
+    put_fields(&numbers, out);
 }

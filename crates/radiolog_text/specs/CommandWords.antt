@@ -1,10 +1,8 @@
 -- Short words for the operations.
-use Rattle.std.specs.Prelude.{Bool, cond, ◌||◌, List, ℕ}
+use Rattle.std.specs.Prelude.{Bool, cond, ◌||◌, List, ℕ, Option, Some, None}
 use Rattle.text.specs.Words.{ascii, alike}
 use Rattle.commands.specs.declared.Operation.{Operation}
 use Rattle.commands.specs.declared.Operation.TheVariants.{InitLora, CreateModulationParams, CreatePacketParams, Reset, SetStandby, SetSleep, SetTxRxBufferBaseAddress, SetTxPowerAndRampTime, SetModulationParams, SetPacketParams, SetChannel, SetPayload, DoTx, DoRx, GetRxPayload, GetRxPacketStatus, DoCad, SetIrqParams, ProcessIrqEvent, SetTxContinuousWaveMode, Program, ReadLink, Airtime, WriteHex, ReadHex}
-use Rattle.commands.specs.declared.Named.{Named}
-use Rattle.commands.specs.declared.Named.TheVariants.{Known, Unknown}
 use Rattle.commands.specs.Operations.{operations, among, operation_of}
 
 abbrev pub word : Operation → List ℕ
@@ -35,14 +33,14 @@ word WriteHex = ascii "write_hex"
 word ReadHex = ascii "read_hex"
 
 -- one name, or where it names nothing the other
-abbrev pub otherwise : Named → Named → Named
-otherwise (Known o) n = Known o
-otherwise Unknown n = n
+abbrev pub otherwise : Option Operation → Option Operation → Option Operation
+otherwise (Some o) n = Some o
+otherwise None n = n
 
 -- the word of an operation that takes a text: nothing of it goes over the bus
 abbrev pub takes_text : List ℕ → Bool
 takes_text w = alike w (word Airtime) || (alike w (word WriteHex) || alike w (word ReadHex))
 
 -- by its word, or else by its own name; what takes a text is no command
-unfoldable pub command_of : List ℕ → Named
-command_of w = cond (takes_text w) Unknown (otherwise (among word w operations) (operation_of w))
+unfoldable pub command_of : List ℕ → Option Operation
+command_of w = cond (takes_text w) None (otherwise (among word w operations) (operation_of w))

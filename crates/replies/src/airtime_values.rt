@@ -1,27 +1,29 @@
 // The answer of `airtime` as text: ten totals, or the first bad line.
-ghost use Rattle.std.specs.Prelude.{◌+◌, ◌≤◌, length};
+#![tactic(auto, using(text::proofs::printing::Appending::texts, crate::proofs::answers::Zero::zero), unfolding(crate::specs::Answers::answer_text))]
+
+ghost use Rattle.std.specs.Prelude.{◌+◌, ◌≤◌};
 ghost use Rattle.params.specs.Answers.{tells_airtime};
-ghost use Rattle.text.specs.Text.{Appended};
+ghost use Rattle.text.specs.Text.{Space, Put};
 ghost use Rattle.replies.specs.Answers.{answer_text};
 
-use crate::put_values;
-use params::answers::AirtimeAnswer;
-use text::printing::put;
-use text::put_decimals::put_decimal;
+use crate::values::put_numbers;
+use params::answers::BadLine;
+use params::mod_params::RadioError;
+use text::printing::Text;
 
-pub fn put_airtime(a: AirtimeAnswer, totals: &[u64; 10], out: &mut [u8], at: usize) -> usize
-    requires { at + 230 ≤ length out.old }
-    ensures appended { Appended (answer_text (tells_airtime a totals.now)) at out.old result out.new }
-    ensures upper_bound { result ≤ at + 230 }
+pub fn put_airtime(answer: Result<(), BadLine>, totals: &[u64; 10], out: &mut Text<'_>)
+    requires { Space 230 out.old }
+    ensures appended { Put (answer_text (tells_airtime answer totals.now)) out.old out.new }
+    ensures upper_bound { out.new.end ≤ out.old.end + 230 }
 {
-    match a {
-        AirtimeAnswer::Totals => {
-            let at = put(b"0", out, at);
-            put_values(totals, out, at)
+    match answer {
+        Ok(()) => {
+            out.put(b"0");
+            put_numbers(totals, out);
         }
-        AirtimeAnswer::BadLine(f, line) => {
-            let at = put_decimal(f.error().number() as u64, out, at);
-            put_values(&[line], out, at)
+        Err(bad) => {
+            out.put_decimal(RadioError::from(bad).number() as u64);
+            put_numbers(&[bad.line], out);
         }
     }
 }

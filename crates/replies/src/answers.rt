@@ -1,82 +1,56 @@
-// The answers of the calls that append, as text: done, received, measured, an interrupt's outcome.
-ghost use Rattle.std.specs.Prelude.{◌≡◌, ◌+◌, ◌≤◌, [], ◌∷◌, pos, length};
-ghost use Rattle.params.specs.Errors.{told};
-ghost use Rattle.params.specs.Answers.{flag_value, tells_done, tells_payload, tells_status, tells_irq};
-ghost use Rattle.text.specs.Text.{Appended};
+// Answers as text: 0 and the values that go with what was answered, or a refusal's number and its own.
+#![tactic(auto, using(text::proofs::printing::Appending::texts, crate::proofs::answers::Zero::zero), unfolding(crate::specs::Answers::answer_text))]
+
+ghost use Rattle.std.specs.Prelude.{◌+◌, ◌≤◌};
+ghost use Rattle.params.specs.Errors.{refusal};
+ghost use Rattle.params.specs.Answers.{tells, tells_read_hex};
+ghost use Rattle.text.specs.Text.{Space, Put};
 ghost use Rattle.replies.specs.Answers.{answer_text};
 
-use crate::{put_refusal, put_value, put_values};
-use params::answers::{Answer, IrqAnswer, PayloadAnswer, StatusAnswer};
-use text::printing::put;
+use crate::values::{Values, put_numbers};
+use params::answers::HexError;
+use params::mod_params::RadioError;
+use text::printing::Text;
 
-pub fn put_done(a: Answer, out: &mut [u8], at: usize) -> usize
-    requires { at + 230 ≤ length out.old }
-    ensures appended { Appended (answer_text (tells_done a)) at out.old result out.new }
-    ensures upper_bound { result ≤ at + 230 }
+pub fn put_refusal(e: RadioError, out: &mut Text<'_>)
+    requires { Space 62 out.old }
+    ensures appended { Put (answer_text (refusal e)) out.old out.new }
+    ensures upper_bound { out.new.end ≤ out.old.end + 62 }
 {
-    match a {
-        Answer::Done(_) => put(b"0", out, at),
-        Answer::Refused(e, _) => put_refusal(e, out, at),
-    }
-}
-
-pub fn put_received(a: PayloadAnswer, out: &mut [u8], at: usize) -> usize
-    requires { at + 230 ≤ length out.old }
-    ensures appended { Appended (answer_text (tells_payload a)) at out.old result out.new }
-    ensures upper_bound { result ≤ at + 230 }
-{
-    match a {
-        PayloadAnswer::Received(length, _) => {
-            let at = put(b"0", out, at);
-            put_values(&[length as u64], out, at)
+    out.put_decimal(e.number() as u64);
+    match e {
+        RadioError::OpError(code) => put_numbers(&[code as u64], out),
+        RadioError::InvalidBaseAddress(tx, rx) => put_numbers(&[tx as u64, rx as u64], out),
+        RadioError::PayloadSizeUnexpected(size) => put_numbers(&[size as u64], out),
+        RadioError::PayloadSizeMismatch(size, room) => {
+            put_numbers(&[size as u64, room as u64], out)
         }
-        PayloadAnswer::Refused(e, _) => put_refusal(e, out, at),
+        _ => {}
     }
 }
 
-pub fn wide(v: i16) -> i32
-    ensures { result ≡ v }
+pub fn put_answer<T: Values>(answer: Result<T, RadioError>, out: &mut Text<'_>)
+    requires { Space 230 out.old }
+    ensures appended { Put (answer_text (tells T.values answer)) out.old out.new }
+    ensures upper_bound { out.new.end ≤ out.old.end + 230 }
 {
-    v as i32
-}
-
-pub fn put_status(a: StatusAnswer, out: &mut [u8], at: usize) -> usize
-    requires { at + 230 ≤ length out.old }
-    ensures appended { Appended (answer_text (tells_status a)) at out.old result out.new }
-    ensures upper_bound { result ≤ at + 230 }
-{
-    match a {
-        StatusAnswer::Measured(s, _) => {
-            let at = put(b"0", out, at);
-            let at = put_value(wide(s.rssi), out, at);
-            put_value(wide(s.snr), out, at)
+    match answer {
+        Ok(answered) => {
+            out.put(b"0");
+            answered.put_values(out);
         }
-        StatusAnswer::Refused(e, _) => put_refusal(e, out, at),
+        Err(e) => put_refusal(e, out),
     }
 }
 
-fn put_activity(found: bool, out: &mut [u8], at: usize) -> usize
-    requires { at + 5 ≤ length out.old }
-    ensures appended { Appended (answer_text (told 0 (pos 2 ∷ flag_value found ∷ []))) at out.old result out.new }
-    ensures upper_bound { result ≤ at + 5 }
+// Which record is bad is not told.
+pub fn put_read(answer: Result<(), HexError>, out: &mut Text<'_>)
+    requires { Space 230 out.old }
+    ensures appended { Put (answer_text (tells_read_hex answer)) out.old out.new }
+    ensures upper_bound { out.new.end ≤ out.old.end + 230 }
 {
-    if found {
-        put(b"0 2 1", out, at)
-    } else {
-        put(b"0 2 0", out, at)
-    }
-}
-
-pub fn put_event(a: IrqAnswer, out: &mut [u8], at: usize) -> usize
-    requires { at + 230 ≤ length out.old }
-    ensures appended { Appended (answer_text (tells_irq a)) at out.old result out.new }
-    ensures upper_bound { result ≤ at + 230 }
-{
-    match a {
-        IrqAnswer::Nothing(_) => put(b"0 0", out, at),
-        IrqAnswer::PreambleReceived(_) => put(b"0 1", out, at),
-        IrqAnswer::Done(_) => put(b"0 2", out, at),
-        IrqAnswer::CadDone(found, _) => put_activity(found, out, at),
-        IrqAnswer::Refused(e, _) => put_refusal(e, out, at),
+    match answer {
+        Ok(()) => out.put(b"0"),
+        Err(why) => put_refusal(why.into(), out),
     }
 }

@@ -7,11 +7,6 @@ use Rattle.commands.specs.Operations.{arguments}
 use Rattle.requests.specs.declared.Fault.{Fault}
 use Rattle.requests.specs.declared.Fault.TheVariants.{LongLine, FieldCount, Variant, Flag, UnknownOperation, Arguments, Bytes, Buffer, Used}
 
-abbrev pub table : List ℕ
-table =
-    ascii
-    "-\tpublic\tsf bw cr hz\tpreamble implicit payload_length crc iq sf\ttx rx\tpower is_tx_prep\tsf bw cr optimize\tpreamble implicit payload_length crc iq\thz\trxmode n\tmode rxmode\tmode rxmode clear\tpublic sf bw cr hz preamble implicit crc iq power"
-
 abbrev pub wanted : Operation → List ℕ
 wanted o = ascii "field 6: expected arguments: " ++ arguments o
 

@@ -1,25 +1,25 @@
 -- What is wrong with a line that is no call, first of all that is.
-use Rattle.std.specs.Prelude.{Bool, cond, ◌&&◌, ◌||◌, List, ℕ, eqb, leb, length}
+use Rattle.std.specs.Prelude.{Bool, cond, ◌&&◌, ◌||◌, List, ℕ, eqb, leb, length, ⊤, Option, Some, None, Result, Ok, Err}
 use Rattle.text.specs.declared.hex.Case.TheVariants.{Lower}
-use Rattle.text.specs.Decimal.{number_of}
 use Rattle.text.specs.Fields.{count_of, field_at}
 use Rattle.text.specs.Hex.{ten, hex_digits}
 use Rattle.text.specs.Words.{ascii, alike}
-use Rattle.commands.specs.declared.Named.{Named}
-use Rattle.commands.specs.declared.Named.TheVariants.{Known, Unknown}
+use Rattle.commands.specs.declared.Operation.{Operation}
+use Rattle.commands.specs.declared.signatures.Kind.TheVariants.{Count}
 use Rattle.requests.specs.declared.Fault.{Fault}
 use Rattle.requests.specs.declared.Fault.TheVariants.{LongLine, FieldCount, Variant, Flag, UnknownOperation, Arguments, Bytes, Buffer, Used}
-use Rattle.requests.specs.declared.Flaw.{Flaw}
-use Rattle.requests.specs.declared.Flaw.TheVariants.{Clear, Wrong}
-use Rattle.commands.specs.Operations.{count, kinds, operation_of}
-use Rattle.commands.specs.Arguments.{is_number, fit}
+use Rattle.commands.specs.Operations.{kinds, operation_of}
+use Rattle.commands.specs.Arguments.{of_kind, fit}
+
+abbrev pub Flaw : Type 0
+Flaw = Result ⊤ Fault
 
 abbrev pub or_else : Flaw → Flaw → Flaw
-or_else Clear next = next
-or_else (Wrong f) next = Wrong f
+or_else (Ok tt) next = next
+or_else (Err f) next = Err f
 
 abbrev pub checked : Bool → Fault → Flaw
-checked right f = cond right Clear (Wrong f)
+checked right f = cond right (Ok tt) (Err f)
 
 -- field k of a line, counted from 0
 abbrev pub at : ℕ → List ℕ → List ℕ
@@ -49,9 +49,9 @@ head_flaw line =
     or_else (checked (is_either (ascii "1272") (ascii "1276") (at 0 line)) Variant)
     (or_else (flag_flaw 1 2 line) (or_else (flag_flaw 2 3 line) (flag_flaw 3 4 line)))
 
-abbrev pub arguments_flaw : Named → List ℕ → Flaw
-arguments_flaw Unknown s = Wrong UnknownOperation
-arguments_flaw (Known o) s = checked (fit (kinds o) s) (Arguments o)
+abbrev pub arguments_flaw : Option Operation → List ℕ → Flaw
+arguments_flaw None s = Err UnknownOperation
+arguments_flaw (Some o) s = checked (fit (kinds o) s) (Arguments o)
 
 unfoldable pub asked_flaw : List ℕ → Flaw
 asked_flaw line = arguments_flaw (operation_of (at 4 line)) (at 5 line)
@@ -60,7 +60,7 @@ unfoldable pub lent_flaw : List ℕ → Flaw
 lent_flaw line = or_else (bytes_flaw 6 7 line) (or_else (bytes_flaw 7 8 line) (or_else (buffer_flaw line) (bytes_flaw 9 10 line)))
 
 unfoldable pub used_flaw : List ℕ → Flaw
-used_flaw line = checked (is_number (number_of count (at 10 line))) Used
+used_flaw line = checked (of_kind Count (at 10 line)) Used
 
 unfoldable pub flaw_of : List ℕ → Flaw
 flaw_of line =

@@ -1,10 +1,7 @@
--- `commands::found`: what the words from word k on name is what the whole list names.
-use Rattle.std.proofs.Common.{◌≡◌, ◌-◌, ◌≤◌, drop}
-use Rattle.commands.specs.Operations.{found_from, operations}
+-- `commands::found`: what the names from here on name is what the whole list names.
+use Rattle.std.proofs.Common.{◌≡◌, ◌≤◌, length, drop}
+use Rattle.commands.specs.Operations.{found_among}
 use Rattle.commands.proofs.found.Given as goal
 
-abbrev pub invariant-loop-k : goal.invariant-loop-k
-invariant-loop-k l = (l.k ≤ 25) × (found_from l.w l.words l.k (drop l.k operations) ≡ found_from l.w l.words 0 operations)
-
-abbrev pub decreases-loop-k : goal.decreases-loop-k
-decreases-loop-k l = 25 - l.k
+abbrev pub invariant-loop-word : goal.invariant-loop-word
+invariant-loop-word l = (l.word-index ≤ length l.names) × (found_among l.w (drop l.word-index l.names) ≡ found_among l.w l.names)

@@ -1,8 +1,7 @@
--- `commands::operation_named` meets its contract: each name stands at its operation's place.
-use Rattle.text.specs.Bytes.{index_of}
+-- `commands::operation_named` meets its contract: each name stands beside its operation, in the operations' order.
 use Rattle.commands.specs.Operations.{operations, operation_of}
 use Rattle.commands.proofs.operation_named.Goals as goal
 
 pub returns : goal.returns
-unfolding operations operation_of index_of
+unfolding operations operation_of
 returns c = c.found.ensures

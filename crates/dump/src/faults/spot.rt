@@ -1,8 +1,8 @@
 // Lines and columns.
 ghost use Rattle.std.specs.Prelude.{◌≡◌};
-ghost use Rattle.dump.specs.Spot.{line_from, column_from};
+ghost use Rattle.dump.specs.Spot.{line_from, column_from, last_line};
 
-#[derive(Clone, Copy)]
+#[derive(Clone, Copy, PartialEq, Eq)]
 pub struct Spot {
     pub line: usize,
     pub column: usize,
@@ -14,15 +14,23 @@ pub fn spot_behind(s: &[u8]) -> Spot
 {
     let mut line = 1;
     let mut column = 1;
-    let mut i = 0;
-    while i < s.len() {
-        if s[i] == b'\n' {
+    for &c in s {
+        if c == b'\n' {
             line += 1;
             column = 1;
         } else {
             column += 1;
         }
-        i += 1;
     }
     Spot { line, column }
+}
+
+// The line of a text's last character.
+pub(crate) fn last_line(s: &[u8]) -> usize
+    ensures { result ≡ last_line s.now }
+{
+    match s {
+        [before @ .., _] => spot_behind(before).line,
+        [] => 1,
+    }
 }

@@ -12,5 +12,5 @@ unfolding link_lines
 returns-clause-appended c =
     let l = c.args.l in
     let f : mag l.power < 2147483648 = search rules in
-    let power = same (ap (λ (z : ℤ). power_line z) (to_z-of_z w32 l.power (record { sfits = f }))) c.put_power-at.ensures.appended in
-    then c.put_sync-at.ensures.appended (then c.put_modem-at.ensures.appended (then c.put_packet-at.ensures.appended (then power c.put_pin.ensures.appended)))
+    let power = same (ap (λ (z : ℤ). power_line z) (to_z-of_z w32 l.power (record { sfits = f }))) c.put_power.ensures.appended in
+    then c.put_sync.ensures.appended (then c.put_modem.ensures.appended (then c.put_packet.ensures.appended (then power c.put_pin.ensures.appended)))

@@ -7,5 +7,5 @@ use Rattle.link_rows.proofs.put_last.Goals as goal
 
 pub returns-clause-appended : goal.returns-clause-appended
 returns-clause-appended c =
-    let number = same (ap signed (to_z-of_z w32 c.args.power c.ranges.power)) c.put_signed-at.ensures.appended in
-    then c.put_field-at.ensures.appended (then c.put-at.ensures (then number c.put.ensures))
+    let number = same (ap signed (to_z-of_z w32 c.args.power c.ranges.power)) c.put_signed.ensures.appended in
+    then (rw c.from.ensures at c.put_field.ensures.appended) (then c.put.ensures (then number c.put-2.ensures))

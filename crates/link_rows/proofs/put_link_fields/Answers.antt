@@ -11,4 +11,4 @@ returns-clause-appended c =
     let l = c.args.l in
     let f : mag l.power < 2147483648 = search rules in
     let last = same (ap (λ (z : ℤ). last_fields l.iq_inverted z) (to_z-of_z w32 l.power (record { sfits = f }))) c.put_last.ensures.appended in
-    then c.put_modem_fields-at.ensures.appended (then c.put_packet_fields-at.ensures.appended last)
+    then c.put_modem_fields.ensures.appended (then c.put_packet_fields.ensures.appended last)

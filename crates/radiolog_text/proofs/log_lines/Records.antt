@@ -1,25 +1,26 @@
--- One record more, and none left.
-use mathlib.Core.Path.{◌≡◌, refl}
+-- The records of a log, three bytes each.
+use mathlib.Core.Path.{◌≡◌, refl, ap}
 use mathlib.Core.List.{List, [], ◌∷◌, ◌++◌}
-use Prim.Native.Nat.{ℕ, suc, ◌+◌, ◌≤◌, ◌<◌}
-use native.Mathlib.Numerals.{add-one}
+use Prim.Native.Nat.{ℕ, zero, suc, ◌/◌}
 use native.Mathlib.Omega.{arith}
-use lib.ListN.{length, drop, get_or}
-use lib.Seq.{drop-cons}
+use lib.ListN.{length, get_or}
+use Rattle.std.specs.Simd.{first_chunks}
 use Rattle.radiolog_text.specs.LogLines.{record_text, records_text}
 
-pub record_more : (l : List ℕ) (i : ℕ) → i + 3 ≤ length l
-    → record_text (get_or l i 0) (get_or l (i + 1) 0) (get_or l (i + 2) 0) ++ records_text (drop (i + 3) l) ≡ records_text (drop i l)
-record_more l i h =
-    let a : i < length l = omega arith in
-    let b : i + 1 < length l = omega arith in
-    let d : i + 2 < length l = omega arith in
-    let e : i + 3 ≡ suc (i + 2) = omega arith in
-    let f : suc (i + 1) ≡ i + 2 = omega arith in
-    rw (drop-cons l i 0, ← add-one i, drop-cons l (i + 1) 0, f, drop-cons l (i + 2) 0, e)
+abbrev pub record_in : List ℕ → List ℕ
+record_in r = record_text (get_or r 0 0) (get_or r 1 0) (get_or r 2 0)
 
-pub none_left : (s : List ℕ) → length s ≤ 2 → records_text s ≡ []
-none_left [] h = refl
-none_left (a ∷ []) h = refl
-none_left (a ∷ b ∷ []) h = refl
-none_left (a ∷ b ∷ d ∷ s) h = absurd (omega arith)
+abbrev pub records_in : List (List ℕ) → List ℕ
+records_in [] = []
+records_in (r ∷ rs) = record_in r ++ records_in rs
+
+-- as many as the log holds whole
+pub whole : (n : ℕ) (log : List ℕ) → n ≡ length log / 3 → records_in (first_chunks 3 n log) ≡ records_text log
+whole zero [] e = refl
+whole zero (a ∷ []) e = refl
+whole zero (a ∷ b ∷ []) e = refl
+whole zero (a ∷ b ∷ d ∷ log) e = absurd (omega arith)
+whole (suc n) [] e = absurd (omega arith)
+whole (suc n) (a ∷ []) e = absurd (omega arith)
+whole (suc n) (a ∷ b ∷ []) e = absurd (omega arith)
+whole (suc n) (a ∷ b ∷ d ∷ log) e = ap (λ (l : List ℕ). record_text a b d ++ l) (whole n log (omega arith))

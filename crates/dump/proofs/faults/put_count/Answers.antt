@@ -3,4 +3,4 @@ use Rattle.text.proofs.printing.Appending.{then}
 use Rattle.dump.proofs.faults.put_count.Goals as goal
 
 pub returns-clause-appended : goal.returns-clause-appended
-returns-clause-appended c = then c.put-at.ensures (then c.put_decimal-at.ensures.appended c.put.ensures)
+returns-clause-appended c = then c.put.ensures (then c.put_decimal.ensures.appended c.put-2.ensures)

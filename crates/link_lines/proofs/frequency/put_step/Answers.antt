@@ -5,4 +5,4 @@ use Rattle.link_lines.proofs.frequency.put_step.Goals as goal
 pub returns-clause-appended : goal.returns-clause-appended
 returns-clause-appended c =
     rw (← c.steps-count.ensures, ← c.frf_msb.ensures, ← c.frf_mid.ensures, ← c.frf_lsb.ensures)
-    (then c.put_counted-at.ensures.appended (then c.put_bytes-at.ensures c.put.ensures))
+    (then c.put_counted.ensures.appended (then c.put_bytes.ensures c.put.ensures))

@@ -7,4 +7,4 @@ use Rattle.link_lines.proofs.power.put_power.Goals as goal
 
 pub returns-clause-appended : goal.returns-clause-appended
 returns-clause-appended c =
-    then c.put-at.ensures (then (same (ap signed (to_z-of_z w32 c.args.power c.ranges.power)) c.put_signed-at.ensures.appended) c.put.ensures)
+    then c.put.ensures (then (same (ap signed (to_z-of_z w32 c.args.power c.ranges.power)) c.put_signed.ensures.appended) c.put-2.ensures)

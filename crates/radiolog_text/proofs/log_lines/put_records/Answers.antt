@@ -1,15 +1,19 @@
--- `radiolog_text::log_lines::put_records` meets its contract: what is left gives the whole.
-use Rattle.std.proofs.Common.{drop, length-drop, arith}
-use Rattle.text.proofs.printing.Appending.{then, same, nothing}
-use Rattle.radiolog_text.proofs.log_lines.Records.{record_more, none_left}
+-- `radiolog_text::log_lines::put_records` meets its contract: the line of one record more, and all of them at the end.
+use Rattle.std.proofs.Common.{◌∙◌, [], refl, ap, arith, take_all}
+use Rattle.text.proofs.printing.Appending.{one_more, same}
+use Rattle.radiolog_text.proofs.log_lines.Records.{record_in, records_in, whole}
 use Rattle.radiolog_text.proofs.log_lines.put_records.Goals as goal
 
-pub loop-i-preserved : goal.loop-i-preserved
-loop-i-preserved c =
-    let l = c.loop-i in
-    (omega arith, omega arith, omega arith, (λ r out' rest. l.invariant.3 r out' (same (record_more c.args.log.now l.i (omega arith)) (then c.put_record-o.ensures.appended rest))))
+pub loop-kind-preserved : goal.loop-kind-preserved
+loop-kind-preserved c = record {
+  put =
+      one_more records_in record_in refl (λ r rs. refl) c.as_chunks.result.0.now c.loop-kind.kind-index [] c.loop-kind-test.true
+      c.loop-kind.invariant.put
+      c.put_record.ensures.appended;
+  short = omega arith;
+}
 
 pub returns-clause-appended : goal.returns-clause-appended
 returns-clause-appended c =
-    let l = c.loop-i in
-    l.invariant.3 l.o l.out (rw (none_left (drop l.i c.args.log.now) (rw length-drop (omega arith))) (nothing l.o l.out (omega arith)))
+    let all = take_all c.loop-kind.kind-index c.as_chunks.result.0.now c.loop-kind-test.false in
+    same (ap records_in (all ∙ c.as_chunks.ensures.front) ∙ whole _ c.args.log.now refl) c.loop-kind.invariant.put

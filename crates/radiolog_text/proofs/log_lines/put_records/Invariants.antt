@@ -1,13 +1,11 @@
--- `radiolog_text::log_lines::put_records`: what is left, behind the lines that stand there, gives the whole.
-use Rattle.std.proofs.Common.{◌≡◌, ℕ, ◌+◌, ◌*◌, ◌-◌, ◌≤◌, List, length, drop}
-use Rattle.text.specs.Text.{Appended}
-use Rattle.radiolog_text.specs.LogLines.{records_text}
+-- The lines of the records so far stand there.
+use Rattle.std.proofs.Common.{◌+◌, ◌*◌, ◌≤◌, take}
+use Rattle.text.specs.Text.{Put}
+use Rattle.radiolog_text.proofs.log_lines.Records.{records_in}
 use Rattle.radiolog_text.proofs.log_lines.put_records.Given as goal
 
-abbrev pub invariant-loop-i : goal.invariant-loop-i
-invariant-loop-i l =
-    (l.i ≤ length l.log) × (l.o ≤ l.at + 3 * l.i) × (length l.out ≡ length l.initial.out)
-    × ((r : ℕ) (out' : List ℕ) → Appended (records_text (drop l.i l.log)) l.o l.out r out' → Appended (records_text l.log) l.at l.initial.out r out')
-
-abbrev pub decreases-loop-i : goal.decreases-loop-i
-decreases-loop-i l = length l.log - l.i
+abbrev pub invariant-loop-kind : goal.invariant-loop-kind
+invariant-loop-kind l = record {
+  put : Put (records_in (take l.kind-index l.records)) l.initial.out l.out;
+  short : l.out.end ≤ l.initial.out.end + 9 * l.kind-index;
+}

@@ -1,7 +1,0 @@
--- `dump::faults::put_bad` meets its contract: one text behind another.
-use Rattle.text.proofs.printing.Appending.{then}
-use Rattle.dump.proofs.faults.put_bad.Goals as goal
-
-pub returns-clause-appended : goal.returns-clause-appended
-returns-clause-appended c =
-    then c.put-at.ensures (then c.put_hex-at.ensures.appended (then c.put-at-2.ensures (then c.put_decimal-at.ensures.appended c.put.ensures)))

@@ -1,6 +1,0 @@
--- `requests::faults::put_numbered` meets its contract: one text behind another.
-use Rattle.text.proofs.printing.Appending.{then}
-use Rattle.requests.proofs.faults.put_numbered.Goals as goal
-
-pub returns-clause-appended : goal.returns-clause-appended
-returns-clause-appended c = then c.put-at.ensures (then c.put_decimal-at.ensures.appended c.put.ensures)
