@@ -1,27 +1,50 @@
 // An input read to its end, piece after piece, so that memory does not grow with it.
-use desk::buffers;
-use params::answers::AirtimeAnswer;
+use desk::whole_input::room;
+use params::answers::BadLine;
 use std::io;
 use std::io::Read;
 use time_on_air::{feed, finish, start};
 
-// What the text comes to, or why it could not be read.
+// Why an input has no totals: it could not be read, or a line of it is bad.
 #[derive(Clone, Copy)]
-pub enum Outcome {
-    Answer(AirtimeAnswer),
+pub enum NoTotals {
     Unread(io::Error),
+    Refused(BadLine),
 }
 
-// Nothing says that the input ends, so the turns are counted, up to a number that no run uses up.
-pub fn read_through(from: &mut impl Read, totals: &mut [u64; 10]) -> Outcome {
-    let mut buf = buffers::large_buffer();
-    let mut r = start();
+impl From<io::Error> for NoTotals {
+    ghost use Rattle.std.specs.Prelude.{◌≡◌};
+    ghost use Rattle.airtime.specs.declared.input.NoTotals.TheVariants.{Unread};
+
+    ghost from_gives = { λ why error. error ≡ Unread why };
+
+    fn from(why: io::Error) -> NoTotals {
+        NoTotals::Unread(why)
+    }
+}
+
+impl From<BadLine> for NoTotals {
+    ghost use Rattle.std.specs.Prelude.{◌≡◌};
+    ghost use Rattle.airtime.specs.declared.input.NoTotals.TheVariants.{Refused};
+
+    ghost from_gives = { λ bad error. error ≡ Refused bad };
+
+    fn from(bad: BadLine) -> NoTotals {
+        NoTotals::Refused(bad)
+    }
+}
+
+// The totals of an input. Nothing says that it ends, so the turns are counted, up to a number that no run uses up.
+pub fn read_through(from: &mut impl Read) -> Result<[u64; 10], NoTotals> {
+    let mut buf = room::<65536>();
+    let mut reading = start();
     for _ in 0..u64::MAX {
-        match from.read(&mut buf) {
-            Ok(0) => break,
-            Ok(n) => r = feed(r, &buf[..n]),
-            Err(why) => return Outcome::Unread(why),
+        match from.read(&mut buf)? {
+            0 => break,
+            n => reading = feed(reading, &buf[..n]),
         }
     }
-    Outcome::Answer(finish(r, totals))
+    let mut totals = [0; 10];
+    finish(reading, &mut totals)?;
+    Ok(totals)
 }

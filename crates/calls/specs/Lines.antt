@@ -1,8 +1,7 @@
--- What is kept of a line from one read to the next is no longer than a call may be.
-use Rattle.std.specs.Prelude.{◌≤◌}
-use Rattle.calls.specs.declared.lines.Turn.{Turn}
-use Rattle.calls.specs.declared.lines.Turn.TheVariants.{More, End}
+-- What was written of a line: at most so many bytes more, in a place of the same length.
+use Rattle.std.specs.Prelude.{◌≡◌, ℕ, ◌+◌, ◌≤◌, length}
+use Rattle.text.specs.declared.printing.Text.{Text}
 
-abbrev pub Short : Turn → Type 0
-Short (More n skipping) = n ≤ 16384
-Short End = Unit
+pub record Within (most : ℕ) (before after : Text) : Type 0 where
+  pub short : after.end ≤ before.end + most
+  pub kept : length after.place.now ≡ length before.place.now

@@ -1,7 +1,6 @@
 // The whole driver as a filter: each line of standard input is a call, each line of standard output its outcome.
 #![tactic(auto)]
 
-mod answers;
 mod call;
 mod lines;
 

@@ -1,45 +1,19 @@
 // An input read whole and written in the other form, or what is wrong with it.
-ghost use Rattle.std.specs.Prelude.{◌≡◌, length};
+#![tactic(auto, using(text::proofs::printing::Appending::texts))]
 
-use crate::words::Asked;
+use crate::words::Direction;
+use desk::files;
+use desk::options::Options;
 use desk::streams::{Stream, Streams};
-use desk::whole_input::{Input, read_all};
-use desk::{files, options};
-use dump::Read;
-use dump::refusals::put_refusal;
+use desk::whole_input::{InputError, read_all, room};
+use dump::DumpError;
+use dump::faults::{Naming, put_fault};
 use intel_hex::{TEXT_SIZE, read_hex, write_hex};
-use params::answers::{ReadHexAnswer, WriteHexAnswer};
+use params::answers::HexError;
 use std::fs::Files;
 use std::io;
 use std::io::Write;
-
-// A text may have any number of records without bytes, so there is much room. It is made in a function of its own, so that no other
-// proof unfolds it.
-fn room() -> [u8; 1048576]
-    ensures { 1048576 ≡ length result }
-{
-    [0; 1048576]
-}
-
-fn say(streams: &mut Streams<impl Write, impl Write>, name: &[u8], text: &[u8]) {
-    files::say(streams, options::none(), b"ihex", name, text);
-}
-
-fn say_unread(streams: &mut Streams<impl Write, impl Write>, name: &[u8], why: io::Error) {
-    files::say_unread(streams, options::none(), b"ihex", name, why);
-}
-
-fn say_refusal(
-    streams: &mut Streams<impl Write, impl Write>,
-    name: &[u8],
-    read: Read,
-    text: &[u8],
-) {
-    let mut out = [0u8; 1024];
-    let n = put_refusal(read, text, &mut out, 0);
-    say(streams, name, b"");
-    files::write_part(streams, Stream::Error, &out, n, b"ihex: standard error");
-}
+use text::printing::Text;
 
 fn write_out(streams: &mut Streams<impl Write, impl Write>, bytes: &[u8]) {
     files::write_out(streams, bytes, b"ihex: standard output");
@@ -47,68 +21,97 @@ fn write_out(streams: &mut Streams<impl Write, impl Write>, bytes: &[u8]) {
 
 // An image of 128 bytes is not refused, nor this room.
 fn print_records(streams: &mut Streams<impl Write, impl Write>, image: &[u8]) {
-    let mut out = [0u8; TEXT_SIZE];
-    if let WriteHexAnswer::Written(_) = write_hex(image, &mut out) {
-        write_out(streams, &out);
+    let mut text = [0u8; TEXT_SIZE];
+    if write_hex(image, &mut text).is_ok() {
+        write_out(streams, &text);
     }
 }
 
-fn write_text(streams: &mut Streams<impl Write, impl Write>, name: &[u8], text: &[u8]) {
-    let mut image = [0u8; 128];
-    let read = dump::read(text, &mut image);
-    match read {
-        Read::Image => print_records(streams, &image),
-        _ => say_refusal(streams, name, read, text),
-    }
+// What is read, by its name, and the form that it is to have.
+#[derive(Clone, Copy)]
+pub struct Source<'a> {
+    pub name: &'a [u8],
+    pub direction: Direction,
 }
 
-// The image has 128 bytes, and so is not refused.
-fn read_text(streams: &mut Streams<impl Write, impl Write>, name: &[u8], text: &[u8]) {
-    let mut image = [0u8; 128];
-    match read_hex(text, &mut image) {
-        ReadHexAnswer::Read => write_out(streams, &image),
-        ReadHexAnswer::Bad(f, line) => say_refusal(streams, name, Read::Record(f, line), text),
-        ReadHexAnswer::Refused(_) => {}
+impl Source<'_> {
+    fn say(self, streams: &mut Streams<impl Write, impl Write>, text: &[u8]) {
+        files::say(streams, Options::default(), b"ihex", self.name, text);
     }
-}
 
-fn convert_text(streams: &mut Streams<impl Write, impl Write>, a: Asked, name: &[u8], text: &[u8]) {
-    if a.write {
-        write_text(streams, name, text);
-    } else {
-        read_text(streams, name, text);
+    fn say_unread(self, streams: &mut Streams<impl Write, impl Write>, why: io::Error) {
+        files::say_unread(streams, Options::default(), b"ihex", self.name, why);
     }
-}
 
-pub fn convert_input(
-    streams: &mut Streams<impl Write, impl Write>,
-    a: Asked,
-    name: &[u8],
-    from: &mut impl io::Read,
-) {
-    let mut buf = room();
-    match read_all(from, &mut buf) {
-        Input::Whole(n) => convert_text(streams, a, name, &buf[..n]),
-        Input::More => say(
+    fn say_refusal(
+        self,
+        streams: &mut Streams<impl Write, impl Write>,
+        fault: DumpError,
+        text: &[u8],
+    ) {
+        let mut place = [0u8; 1024];
+        let mut out = Text {
+            place: &mut place,
+            end: 0,
+        };
+        put_fault(Err(fault), text, Naming::Refusal, &mut out);
+        let end = out.end;
+        self.say(streams, b"");
+        files::write_to(
             streams,
-            name,
-            b"more than 1048575 bytes, which ihex does not take\n",
-        ),
-        Input::Failed(why) => say_unread(streams, name, why),
+            Stream::Error,
+            &place[..end],
+            b"ihex: standard error",
+        );
     }
-}
 
-pub fn convert_file(
-    rt: &(impl Files + io::Input),
-    streams: &mut Streams<impl Write, impl Write>,
-    a: Asked,
-    name: &[u8],
-) {
-    match files::opened(rt, name) {
-        Ok(mut file) => {
-            convert_input(streams, a, name, &mut file);
-            files::close(file);
+    fn write_text(self, streams: &mut Streams<impl Write, impl Write>, text: &[u8]) {
+        let mut image = [0u8; 128];
+        match dump::read(text, &mut image) {
+            Ok(()) => print_records(streams, &image),
+            Err(fault) => self.say_refusal(streams, fault, text),
         }
-        Err(why) => say_unread(streams, name, why),
+    }
+
+    // The image has 128 bytes, and so is not refused.
+    fn read_text(self, streams: &mut Streams<impl Write, impl Write>, text: &[u8]) {
+        let mut image = [0u8; 128];
+        match read_hex(text, &mut image) {
+            Ok(()) => write_out(streams, &image),
+            Err(HexError::Bad(fault, line)) => {
+                self.say_refusal(streams, DumpError::Record(fault, line), text)
+            }
+            Err(HexError::Refused(_)) => {}
+        }
+    }
+
+    // A text may have any number of records without bytes, so there is much room. No Vec: where memory lacks, the program
+    // would do otherwise than it did.
+    pub fn convert_input(
+        self,
+        streams: &mut Streams<impl Write, impl Write>,
+        from: &mut impl io::Read,
+    ) {
+        let mut buf = room::<1048576>();
+        match (read_all(from, &mut buf), self.direction) {
+            (Ok(n), Direction::Write) => self.write_text(streams, &buf[..n]),
+            (Ok(n), Direction::Read) => self.read_text(streams, &buf[..n]),
+            (Err(InputError::More), _) => self.say(
+                streams,
+                b"more than 1048575 bytes, which ihex does not take\n",
+            ),
+            (Err(InputError::Failed(why)), _) => self.say_unread(streams, why),
+        }
+    }
+
+    pub fn convert_file(
+        self,
+        rt: &(impl Files + io::Input),
+        streams: &mut Streams<impl Write, impl Write>,
+    ) {
+        match files::opened(rt, self.name) {
+            Ok(mut file) => self.convert_input(streams, &mut file),
+            Err(why) => self.say_unread(streams, why),
+        }
     }
 }

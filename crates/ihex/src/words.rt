@@ -1,130 +1,94 @@
 // What the command line asks: write or read, and a file.
-use desk::options::{Options, is_option};
+use desk::options::{Stop, is_option};
 use desk::streams::Streams;
-use desk::{arguments, buffers, options};
+use desk::{arguments, options};
 use std::env::Env;
 use std::io::Write;
-use text::reading::same;
 
-// The file is the place of the word that names it, 0 where none does. Of the options help and wrong are used.
+// To Intel HEX, or from it.
+#[derive(Clone, Copy)]
+pub enum Direction {
+    Write,
+    Read,
+}
+
+// What the words so far say.
+#[derive(Clone, Copy, Default)]
+struct Said {
+    direction: Option<Direction>,
+    file: bool,
+}
+
 #[derive(Clone, Copy)]
 pub struct Asked {
-    pub write: bool,
-    pub read: bool,
-    pub file: usize,
-    pub options: Options,
+    pub direction: Direction,
+    pub file: bool,
 }
 
-fn with_options(asked: Asked, o: Options) -> Asked {
-    let mut a = asked;
-    a.options = o;
-    a
-}
+// Where the word stands that names a file: an option stops the tool, so that none is before it.
+pub const FILE: usize = 2;
 
-fn wrong(
-    streams: &mut Streams<impl Write, impl Write>,
-    asked: Asked,
-    what: &[u8],
-    text: &[u8],
-) -> Asked {
-    let o = asked.options;
-    with_options(asked, options::wrong(streams, o, b"ihex", what, text))
-}
-
-fn with_option(streams: &mut Streams<impl Write, impl Write>, asked: Asked, word: &[u8]) -> Asked {
-    if !same(word, b"-h") {
-        return wrong(streams, asked, word, b" is no option\n");
-    }
-    let mut o = asked.options;
-    o.help = true;
-    with_options(asked, o)
-}
-
-fn with_verb(streams: &mut Streams<impl Write, impl Write>, asked: Asked, word: &[u8]) -> Asked {
-    let mut a = asked;
-    if same(word, b"write") {
-        a.write = true;
-    } else if same(word, b"read") {
-        a.read = true;
-    } else {
-        return wrong(streams, a, word, b" is neither write nor read\n");
-    }
-    a
+fn wrong(streams: &mut Streams<impl Write, impl Write>, what: &[u8], text: &[u8]) -> Stop {
+    options::wrong(streams, b"ihex", what, text)
 }
 
 fn with_file(
     streams: &mut Streams<impl Write, impl Write>,
-    asked: Asked,
+    said: Said,
     word: &[u8],
-    i: usize,
-) -> Asked {
-    if asked.file != 0 {
-        return wrong(
-            streams,
-            asked,
-            word,
-            b" is a second FILE, and one is taken\n",
-        );
+) -> Result<Said, Stop> {
+    if said.file {
+        return Err(wrong(streams, word, b" is a second FILE, and one is taken\n"));
     }
-    let mut a = asked;
-    a.file = i;
-    a
+    Ok(Said { file: true, ..said })
+}
+
+fn with_direction(
+    streams: &mut Streams<impl Write, impl Write>,
+    said: Said,
+    word: &[u8],
+) -> Result<Said, Stop> {
+    let direction = match word {
+        b"write" => Direction::Write,
+        b"read" => Direction::Read,
+        _ => return Err(wrong(streams, word, b" is neither write nor read\n")),
+    };
+    Ok(Said {
+        direction: Some(direction),
+        ..said
+    })
 }
 
 // The first word that is no option says what to do, and the second names a file.
 fn with_word(
     streams: &mut Streams<impl Write, impl Write>,
-    asked: Asked,
+    said: Said,
     word: &[u8],
-    i: usize,
-) -> Asked {
-    if is_option(word) {
-        return with_option(streams, asked, word);
+) -> Result<Said, Stop> {
+    match word {
+        b"-h" => Err(Stop::Help),
+        _ if is_option(word) => Err(wrong(streams, word, b" is no option\n")),
+        _ if said.direction.is_some() => with_file(streams, said, word),
+        _ => with_direction(streams, said, word),
     }
-    if asked.write || asked.read {
-        return with_file(streams, asked, word, i);
-    }
-    with_verb(streams, asked, word)
 }
 
-fn with_argument(
+pub fn all_words(
     rt: &impl Env,
     streams: &mut Streams<impl Write, impl Write>,
-    asked: Asked,
-    i: usize,
-) -> Asked {
-    let mut place = buffers::buffer();
-    match arguments::word(rt, i, &mut place) {
-        Some(word) => with_word(streams, asked, word, i),
-        None => {
-            let o = asked.options;
-            with_options(asked, options::too_long(streams, o, b"ihex"))
-        }
+) -> Result<Asked, Stop> {
+    let said = arguments::all_words(
+        rt,
+        streams,
+        b"ihex",
+        Said::default(),
+        |streams, said, word| with_word(streams, said, word),
+    )?;
+    match said.direction {
+        Some(direction) => Ok(Asked {
+            direction,
+            file: said.file,
+        }),
+        None => Err(wrong(streams, b"say write or read", b"\n")),
     }
-}
-
-fn settled(streams: &mut Streams<impl Write, impl Write>, a: Asked) -> Asked {
-    if a.write || a.read {
-        return a;
-    }
-    wrong(streams, a, b"say write or read", b"\n")
-}
-
-// The words are looked at in turn, up to one that is wrong or asks for help.
-pub fn all_words(rt: &impl Env, streams: &mut Streams<impl Write, impl Write>) -> Asked {
-    let count = arguments::count(rt);
-    let none = options::none();
-    let mut a = Asked {
-        write: false,
-        read: false,
-        file: 0,
-        options: none,
-    };
-    for i in 1..count {
-        a = with_argument(rt, streams, a, i);
-        if a.options.help || a.options.wrong {
-            return a;
-        }
-    }
-    settled(streams, a)
 }

@@ -1,170 +1,120 @@
-// What a call appended and answered, as lines in a lent place. Each function answers where they end.
-ghost use Rattle.std.specs.Prelude.{◌≤◌, length};
+// What a call appended and answered, as lines.
+#![tactic(auto, using(text::proofs::printing::Appending::texts))]
 
-use params::answers::{
-    Answer, IrqAnswer, LinkAnswer, ModulationAnswer, PacketAnswer, PayloadAnswer, StatusAnswer,
-};
-use params::mod_params::RadioError;
+ghost use Rattle.std.specs.Prelude.{◌≤◌, length};
+ghost use Rattle.text.specs.Text.{Space};
+ghost use Rattle.radiolog.specs.Grown.{Grown};
+
+use bus::Radio;
+use bus::log::Log;
+use params::mod_params::{PacketStatus, RadioError};
 use radiolog_text::log_lines::put_records;
 use radiolog_text::refusal_lines::put_refused;
-use replies::{answers, link_values, modulation_values, packet_values};
+use replies::answers::put_answer;
+use replies::values::Values;
+use sheets::Variant;
 use text::hex::Case;
-use text::printing::{put, put_hex};
+use text::printing::Text;
 
-// The records of a log that are used.
-fn records(log: &[u8], used: usize, out: &mut [u8]) -> usize
-    requires { (length log.now ≤ 96) × (288 ≤ length out.old) }
-    ensures { result ≤ 288 }
+// The bytes of a log: the longest call appends 30 records.
+const LOG: usize = 96;
+
+fn put_used(log: &[u8; LOG], used: usize, out: &mut Text<'_>)
+    requires { Space 288 out.old }
+    ensures { Grown 288 out.old out.new }
 {
-    if used <= log.len() {
-        put_records(&log[..used], out, 0)
-    } else {
-        0
+    if let Some(records) = log.get(..used) {
+        put_records(records, out);
     }
 }
 
-fn refused(e: RadioError, log: &[u8], used: usize, out: &mut [u8]) -> usize
-    requires { (length log.now ≤ 96) × (2048 ≤ length out.old) }
-    ensures { result ≤ 1200 }
+// Makes a call over an image with a log of its own, and puts the records that it appends.
+pub fn logged<T, F: FnOnce(&mut Radio<'_>) -> T>(image: &mut [u8], call: F, out: &mut Text<'_>) -> T
+    requires callable { F.IsAlwaysCallable call }
+    requires room { Space 288 out.old }
+    ensures { Grown 288 out.old out.new }
 {
-    let at = records(log, used, out);
-    put_refused(e, out, at)
+    let mut log = [0u8; LOG];
+    let mut radio = Radio {
+        image,
+        log: &mut log,
+        used: 0,
+    };
+    let answer = call(&mut radio);
+    let used = radio.used;
+    put_used(&log, used, out);
+    answer
 }
 
-// The records, and the mark of an answer's line.
-fn begun(log: &[u8], used: usize, out: &mut [u8]) -> usize
-    requires { (length log.now ≤ 96) × (2048 ≤ length out.old) }
-    ensures { result ≤ 290 }
+// The same for the one call that only reads the image.
+pub fn status(
+    image: &[u8],
+    variant: Variant,
+    out: &mut Text<'_>,
+) -> Result<PacketStatus, RadioError>
+    requires { Space 288 out.old }
+    ensures { Grown 288 out.old out.new }
 {
-    let at = records(log, used, out);
-    put(b"=\t", out, at)
+    let mut bytes = [0u8; LOG];
+    let mut log = Log {
+        bytes: &mut bytes,
+        used: 0,
+    };
+    let answer = sx127x::get_rx_packet_status(image, &mut log, variant);
+    let used = log.used;
+    put_used(&bytes, used, out);
+    answer
 }
 
-fn ended(out: &mut [u8], at: usize) -> usize
-    requires { (at ≤ 1199) × (2048 ≤ length out.old) }
-    ensures { result ≤ 1200 }
+// Nothing stands behind the records of a call that was done.
+pub fn put_done(answer: Result<(), RadioError>, out: &mut Text<'_>)
+    requires { Space 97 out.old }
+    ensures { Grown 97 out.old out.new }
 {
-    put(b"\n", out, at)
-}
-
-pub fn done(a: Answer, log: &[u8], out: &mut [u8]) -> usize
-    requires { (length log.now ≤ 96) × (2048 ≤ length out.old) }
-    ensures { result ≤ 1200 }
-{
-    match a {
-        Answer::Done(used) => records(log, used, out),
-        Answer::Refused(e, used) => refused(e, log, used, out),
+    if let Err(e) = answer {
+        put_refused(e, out);
     }
 }
 
-pub fn measured(a: StatusAnswer, log: &[u8], out: &mut [u8]) -> usize
-    requires { (length log.now ≤ 96) × (2048 ≤ length out.old) }
-    ensures { result ≤ 1200 }
+pub fn put_told<T: Values>(answer: Result<T, RadioError>, out: &mut Text<'_>)
+    requires { Space 240 out.old }
+    ensures { Grown 240 out.old out.new }
 {
-    match a {
-        StatusAnswer::Measured(_, used) => {
-            let at = begun(log, used, out);
-            let at = answers::put_status(a, out, at);
-            ended(out, at)
+    match answer {
+        Ok(told) => {
+            out.put(b"=\t");
+            put_answer(Ok(told), out);
+            out.put(b"\n");
         }
-        StatusAnswer::Refused(e, used) => refused(e, log, used, out),
-    }
-}
-
-fn event_used(a: IrqAnswer) -> usize {
-    match a {
-        IrqAnswer::Nothing(used) => used,
-        IrqAnswer::PreambleReceived(used) => used,
-        IrqAnswer::Done(used) => used,
-        IrqAnswer::CadDone(_, used) => used,
-        IrqAnswer::Refused(_, used) => used,
-    }
-}
-
-pub fn event(a: IrqAnswer, log: &[u8], out: &mut [u8]) -> usize
-    requires { (length log.now ≤ 96) × (2048 ≤ length out.old) }
-    ensures { result ≤ 1200 }
-{
-    let used = event_used(a);
-    match a {
-        IrqAnswer::Refused(e, _) => refused(e, log, used, out),
-        _ => {
-            let at = begun(log, used, out);
-            let at = answers::put_event(a, out, at);
-            ended(out, at)
-        }
+        Err(e) => put_refused(e, out),
     }
 }
 
 // The bytes received, or a dash for none.
-fn packet(bytes: &[u8], count: usize, out: &mut [u8], at: usize) -> usize
-    requires { (at ≤ 521) × (length bytes.now ≤ 255) × (2048 ≤ length out.old) }
-    ensures { result ≤ 1100 }
+fn put_packet(bytes: &[u8], out: &mut Text<'_>)
+    requires { (length bytes.now ≤ 255) × Space 510 out.old }
+    ensures { Grown 510 out.old out.new }
 {
-    if count == 0 {
-        return put(b"-", out, at);
-    }
-    if count <= bytes.len() {
-        return put_hex(&bytes[..count], Case::Upper, out, at);
-    }
-    at
-}
-
-pub fn received(a: PayloadAnswer, bytes: &[u8], log: &[u8], out: &mut [u8]) -> usize
-    requires { (length bytes.now ≤ 255) × (length log.now ≤ 96) × (2048 ≤ length out.old) }
-    ensures { result ≤ 1200 }
-{
-    match a {
-        PayloadAnswer::Received(count, used) => {
-            let at = begun(log, used, out);
-            let at = answers::put_received(a, out, at);
-            let at = put(b"\t", out, at);
-            let at = packet(bytes, count as usize, out, at);
-            ended(out, at)
-        }
-        PayloadAnswer::Refused(e, used) => refused(e, log, used, out),
+    if bytes.is_empty() {
+        out.put(b"-");
+    } else {
+        out.put_hex(bytes, Case::Upper);
     }
 }
 
-// Calls that append nothing.
-pub fn modulation(a: ModulationAnswer, out: &mut [u8]) -> usize
-    requires { 2048 ≤ length out.old }
-    ensures { result ≤ 1200 }
+// A packet is received into the start of a buffer.
+pub fn put_received(answer: Result<u8, RadioError>, buffer: &[u8; 255], out: &mut Text<'_>)
+    requires { Space 750 out.old }
+    ensures { Grown 750 out.old out.new }
 {
-    match a {
-        ModulationAnswer::Created(_) => {
-            let at = put(b"=\t", out, 0);
-            let at = modulation_values::put_modulation(a, out, at);
-            ended(out, at)
+    match answer {
+        Ok(count) => {
+            out.put(b"=\t");
+            put_answer(Ok(count), out);
+            out.put(b"\t");
+            put_packet(&buffer[..count as usize], out);
+            out.put(b"\n");
         }
-        ModulationAnswer::Refused(e) => put_refused(e, out, 0),
-    }
-}
-
-pub fn framing(a: PacketAnswer, out: &mut [u8]) -> usize
-    requires { 2048 ≤ length out.old }
-    ensures { result ≤ 1200 }
-{
-    match a {
-        PacketAnswer::Created(_) => {
-            let at = put(b"=\t", out, 0);
-            let at = packet_values::put_packet(a, out, at);
-            ended(out, at)
-        }
-        PacketAnswer::Refused(e) => put_refused(e, out, 0),
-    }
-}
-
-pub fn link(a: LinkAnswer, out: &mut [u8]) -> usize
-    requires { 2048 ≤ length out.old }
-    ensures { result ≤ 1200 }
-{
-    match a {
-        LinkAnswer::Found(_) => {
-            let at = put(b"=\t", out, 0);
-            let at = link_values::put_link(a, out, at);
-            ended(out, at)
-        }
-        LinkAnswer::Refused(e) => put_refused(e, out, 0),
+        Err(e) => put_refused(e, out),
     }
 }

@@ -2,8 +2,8 @@
 use Rattle.std.proofs.Common.{◌-◌, ◌≤◌, length}
 use Rattle.calls.proofs.lines.answer_lines.Given as goal
 
-abbrev pub invariant-loop-to : goal.invariant-loop-to
-invariant-loop-to g l = l.to ≤ length l.text
+abbrev pub invariant-loop-n : goal.invariant-loop-n
+invariant-loop-n g l = l.passed.to ≤ length l.text
 
-abbrev pub decreases-loop-to : goal.decreases-loop-to
-decreases-loop-to g l = length l.text - l.to
+abbrev pub decreases-loop-n : goal.decreases-loop-n
+decreases-loop-n g l = length l.text - l.passed.to
