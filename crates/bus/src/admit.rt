@@ -39,6 +39,23 @@ pub fn admit(
     asked.and(fits)
 }
 
+// The same for a call that is lent a FIFO too.
+pub fn admit_fifo(
+    image: &[u8],
+    fifo: &[u8],
+    log: &[u8],
+    used: usize,
+    asked: Result<(), RadioError>,
+    records: u8,
+) -> Result<(), RadioError>
+    ensures { result ≡ admitted_fifo asked (used + 3 * records) image.now fifo.now log.now used }
+{
+    if fifo.len() != 256 {
+        return Err(RadioError::BadImage);
+    }
+    admit(image, log, used, asked, records)
+}
+
 impl<'a> Log<'a> {
     pub fn admit(
         &self,
@@ -59,7 +76,6 @@ impl<'a> Radio<'a> {
         admit(self.image, self.log, self.used, asked, records)
     }
 
-    // The same for a call that is lent a FIFO too.
     pub fn admit_fifo(
         &self,
         fifo: &[u8],
@@ -68,9 +84,6 @@ impl<'a> Radio<'a> {
     ) -> Result<(), RadioError>
         ensures { result ≡ admitted_fifo asked (self.now.used + 3 * records) self.now.image.now fifo.now self.now.log.now self.now.used }
     {
-        if fifo.len() != 256 {
-            return Err(RadioError::BadImage);
-        }
-        self.admit(asked, records)
+        admit_fifo(self.image, fifo, self.log, self.used, asked, records)
     }
 }

@@ -6,7 +6,11 @@ use Rattle.text.specs.Fields.{count_of, field_at}
 use Rattle.text.specs.Words.{ascii, alike}
 use Rattle.commands.specs.declared.signatures.Kind.{Kind}
 use Rattle.commands.specs.declared.signatures.Kind.TheVariants.{Byte, Word, Hertz, Count, Power}
-use Rattle.commands.specs.Operations.{most}
+use Rattle.commands.specs.Operations.{power, most}
+
+-- a text says a number up to any bound; one up to a power's may be as far below zero too
+unfoldable pub of_most : ℕ → List ℕ → Bool
+of_most most s = cond (eqb most power) (is_ok (signed_of s)) (is_ok (number_of most s))
 
 -- a text says a number of a kind
 abbrev pub of_kind : Kind → List ℕ → Bool

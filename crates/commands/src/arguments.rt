@@ -2,7 +2,7 @@
 ghost use Rattle.std.specs.Prelude.{◌≡◌, ◌≤◌};
 ghost use Rattle.text.specs.Decimal.{number_of, signed_of};
 ghost use Rattle.commands.specs.Operations.{kinds as kinds_of, most, byte as byte_most, word as word_most, hertz as hertz_most, count as count_most};
-ghost use Rattle.commands.specs.Arguments.{of_kind, misfit_from, fit as fit_of, argument, signed_argument};
+ghost use Rattle.commands.specs.Arguments.{of_most, of_kind, misfit_from, fit as fit_of, argument, signed_argument};
 
 use crate::Operation;
 use crate::signatures::{Kind, kinds};
@@ -10,14 +10,24 @@ use text::read_decimals::{read_number, read_signed};
 use text::reading;
 use text::reading::field;
 
+// A text says a number up to any bound; one up to a power's may be as far below zero too.
+#[tactic(auto, unfolding(crate::specs::Arguments::of_most))]
+pub fn of_most(most: u64, s: &[u8]) -> bool
+    ensures { result ≡ of_most most s.now }
+{
+    if most == Kind::Power.most() {
+        read_signed(s).is_ok()
+    } else {
+        read_number(s, most).is_ok()
+    }
+}
+
 // A text says a number of a kind.
+#[tactic(auto, using(crate::proofs::arguments::Numbers::most_kind))]
 pub fn of_kind(kind: Kind, s: &[u8]) -> bool
     ensures { result ≡ of_kind kind s.now }
 {
-    match kind {
-        Kind::Power => read_signed(s).is_ok(),
-        _ => read_number(s, kind.most()).is_ok(),
-    }
+    of_most(kind.most(), s)
 }
 
 // Arguments stand in a text, in the operation's order, parted by a byte.

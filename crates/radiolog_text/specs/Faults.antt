@@ -6,7 +6,7 @@ use Rattle.commands.specs.declared.signatures.Kind.{Kind}
 use Rattle.commands.specs.declared.signatures.Kind.TheVariants.{Byte, Word, Hertz, Count, Power}
 use Rattle.commands.specs.Operations.{most}
 use Rattle.radiolog_text.specs.declared.command_lines.Expected.{Expected}
-use Rattle.radiolog_text.specs.declared.command_lines.Expected.TheVariants.{Command, Number, Bytes, Nothing}
+use Rattle.radiolog_text.specs.declared.command_lines.Expected.TheVariants.{Command, Number, UpTo, Bytes, Nothing}
 
 abbrev pub from_zero : ℕ → List ℕ
 from_zero most = ascii "a number from 0 to " ++ decimal most
@@ -21,6 +21,7 @@ range_text Count = from_zero (most Count)
 abbrev pub expected_text : Expected → List ℕ
 expected_text Command = ascii "a command"
 expected_text (Number kind) = range_text kind
+expected_text (UpTo most) = from_zero most
 expected_text Bytes = ascii "hexadecimal digits in pairs, of one case, or - for none"
 expected_text Nothing = ascii "nothing more"
 

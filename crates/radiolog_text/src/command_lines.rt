@@ -16,6 +16,8 @@ const TAB: u8 = b'\t';
 pub enum Expected {
     Command,
     Number(Kind),
+    // From 0, of no kind.
+    UpTo(u64),
     Bytes,
     Nothing,
 }

@@ -3,11 +3,20 @@
 
 ghost use Rattle.std.specs.Prelude.{◌+◌, ◌≤◌};
 ghost use Rattle.text.specs.Text.{Space, Put};
-ghost use Rattle.radiolog_text.specs.Faults.{range_text, expected_text, place_text, wrong_text};
+ghost use Rattle.radiolog_text.specs.Faults.{from_zero, range_text, expected_text, place_text, wrong_text};
 
 use crate::command_lines::{Expected, Misfit};
 use commands::signatures::Kind;
 use text::printing::Text;
+
+fn put_up_to(most: u64, out: &mut Text<'_>)
+    requires { Space 60 out.old }
+    ensures appended { Put (from_zero most) out.old out.new }
+    ensures upper_bound { out.new.end ≤ out.old.end + 60 }
+{
+    out.put(b"a number from 0 to ");
+    out.put_decimal(most);
+}
 
 fn put_range(kind: Kind, out: &mut Text<'_>)
     requires { Space 60 out.old }
@@ -16,10 +25,7 @@ fn put_range(kind: Kind, out: &mut Text<'_>)
 {
     match kind {
         Kind::Power => out.put(b"a number from -2147483648 to 2147483647"),
-        _ => {
-            out.put(b"a number from 0 to ");
-            out.put_decimal(kind.most());
-        }
+        _ => put_up_to(kind.most(), out),
     }
 }
 
@@ -31,6 +37,7 @@ fn put_expected(expected: Expected, out: &mut Text<'_>)
     match expected {
         Expected::Command => out.put(b"a command"),
         Expected::Number(kind) => put_range(kind, out),
+        Expected::UpTo(most) => put_up_to(most, out),
         Expected::Bytes => out.put(b"hexadecimal digits in pairs, of one case, or - for none"),
         Expected::Nothing => out.put(b"nothing more"),
     }

@@ -5,3 +5,5 @@ pub mod answers;
 pub mod board_flags;
 pub mod values;
 pub mod words;
+
+pub use words::put_list;

@@ -12,7 +12,7 @@ pub fn word(value: i64) -> u64
 }
 
 // A word beyond the last place is dropped.
-fn put_word(results: &mut [u64], place: usize, word: u64)
+pub fn put_word(results: &mut [u64], place: usize, word: u64)
     ensures { results.new ≡ set results.old place word }
 {
     if place < results.len() {
@@ -20,13 +20,20 @@ fn put_word(results: &mut [u64], place: usize, word: u64)
     }
 }
 
-// The bytes used, then the words, one by one: `copy_from_slice` becomes memcpy, and the library calls nothing outside.
+// The words from place 1 on, one by one: `copy_from_slice` becomes memcpy, and the library calls nothing outside.
 #[tactic(auto, using(crate::proofs::Placed::place_more))]
+pub fn put_list(results: &mut [u64], words: &[u64])
+    ensures { results.new ≡ placed 1 words.now results.old }
+{
+    for (i, &word) in words.iter().enumerate() {
+        put_word(results, i + 1, word);
+    }
+}
+
+// The bytes used, then the words.
 pub fn put(results: &mut [u64], used: u64, words: &[u64])
     ensures { results.new ≡ placed 0 (used ∷ words.now) results.old }
 {
     put_word(results, 0, used);
-    for (i, &word) in words.iter().enumerate() {
-        put_word(results, i + 1, word);
-    }
+    put_list(results, words);
 }
