@@ -36,6 +36,8 @@ fn write_framing(radio: &mut Radio<'_>, variant: Variant, p: PacketParams)
     }
 }
 
+// Part of each caller's code: out of line, the radio would lie in memory, and whole programming take half as long again.
+#[inline(always)]
 pub fn write_packet(radio: &mut Radio<'_>, variant: Variant, p: PacketParams)
     requires room { Room (packet_records variant) radio.old }
     requires p_value { packet_refusal p ≡ Ok tt }

@@ -27,6 +27,8 @@ fn write_modem(radio: &mut Radio<'_>, variant: Variant, p: ModulationParams)
     }
 }
 
+// Part of each caller's code: out of line, the radio would lie in memory, and whole programming take half as long again.
+#[inline(always)]
 pub fn write_modulation(radio: &mut Radio<'_>, variant: Variant, p: ModulationParams)
     requires room { Room (modulation_records variant) radio.old }
     requires p_value { modulation_refusal variant p ≡ Ok tt }

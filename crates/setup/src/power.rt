@@ -24,6 +24,8 @@ fn set_tx_power(radio: &mut Radio<'_>, board: Board, p_out: i32)
     }
 }
 
+// Part of each caller's code: out of line, the radio would lie in memory, and whole programming take half as long again.
+#[inline(always)]
 pub fn write_power(radio: &mut Radio<'_>, board: Board, p_out: i32, is_tx_prep: u8)
     requires { Room (power_records board.variant) radio.old }
     ensures { Did (power board.variant board.tx_boost p_out is_tx_prep) radio.old radio.new }
